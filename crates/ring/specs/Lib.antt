@@ -1,0 +1,4 @@
+pub mod Numbers
+pub mod Sizes
+pub mod Model
+pub mod Meaning
