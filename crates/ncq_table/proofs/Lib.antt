@@ -1,0 +1,4 @@
+mod Pairs
+mod Window
+mod Stations
+mod Built

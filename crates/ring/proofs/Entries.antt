@@ -1,0 +1,15 @@
+-- A function with one value changed.
+use mathlib.Core.Path.{_≡_, refl}
+use mathlib.Core.Bool.{cond}
+use Prim.Native.Nat.{ℕ}
+use lib.Dec.{eqb}
+use Rattle.std.proofs.shelf.Tests.{eq-eqb, ne-eqb, cond-true, cond-false}
+
+abbrev pub put : {X : Type 0} → (ℕ → X) → ℕ → X → ℕ → X
+put f s x r = cond (eqb r s) x (f r)
+
+pub put-same : {X : Type 0} (f : ℕ → X) (s : ℕ) (x : X) → put f s x s ≡ x
+put-same f s x = cond-true (eqb s s) x (f s) (eq-eqb s s refl)
+
+pub put-other : {X : Type 0} (f : ℕ → X) (s : ℕ) (x : X) (r : ℕ) → (r ≡ s → ⊥) → put f s x r ≡ f r
+put-other f s x r e = cond-false (eqb r s) x (f r) (ne-eqb r s e)
