@@ -1,4 +1,6 @@
 mod Pairs
 mod Window
 mod Stations
+mod Lone
 mod Built
+mod Turns

@@ -8,14 +8,13 @@ use native.Mathlib.Omega.{arith}
 use lib.Dec.{eqb, leb}
 use Rattle.std.proofs.shelf.Lists.{length-set, getD-set-same, getD-set-other}
 use Rattle.std.proofs.shelf.Tests.{cases-lt, cases-eq, le-leb}
-use Rattle.std.proofs.shelf.Ways.{tells}
 use Rattle.std.specs.declared.option.Option.the-variants.{Some, None}
 use Rattle.ring.specs.Model.{Doing, idle, adding, closing, seeking}
 use Rattle.ring.proofs.Tickets.{same-ticket, slots-differ, join-cycle, join-index}
 use Rattle.ncq_table.specs.declared.Stage.{Stage}
 use Rattle.ncq_table.specs.declared.Stage.the-variants.{Idle, N1, N2, N3, N4, N5, N6, N7, N8}
 use Rattle.ncq_table.specs.Table.{cycle, slot, index, join, Memory, word, with-head, with-word}
-use Rattle.ncq_table.specs.Stands.{pair, Absent, Fits, writes, Does, left, Shared}
+use Rattle.ncq_table.specs.Stands.{pair, Absent, Fits, writes, Does, Shared}
 use Rattle.ncq_table.proofs.Pairs.{pair-there, pair-passed, pair-cycle}
 use Rattle.ncq_table.proofs.Window.{same-word, filled-low, at-end, fewer}
 
@@ -244,16 +243,3 @@ pair-stays m t d = ⊎-elim
   (λ k. ap (λ b. cond (b && eqb (cycle (m .places) (word m t)) (cycle (m .places) t)) (Some (index (m .places) (word m t))) None)
     (le-leb (m .head + 1) t (omega arith) ∙ sym (le-leb (m .head) t k)))
   (cases-lt t (m .head))
-
--- how long
-
-pub left-most : (m : Memory) (e : ℕ) (st : Stage) → left m e st ≤ 9
-left-most m e Idle = omega arith
-left-most m e (N1 i) = grind (arith, tells)
-left-most m e (N2 i t) = grind (arith, tells)
-left-most m e (N3 i t) = grind (arith, tells)
-left-most m e (N4 i t w) = grind (arith, tells)
-left-most m e (N5 t) = omega arith
-left-most m e N6 = omega arith
-left-most m e (N7 h) = grind (arith, tells)
-left-most m e (N8 h w) = grind (arith, tells)
