@@ -11,7 +11,7 @@ use Rattle.std.specs.declared.option.Option.the-variants.{Some}
 use Rattle.std.specs.declared.result.Result.the-variants.{Ok}
 use Rattle.ring.specs.declared.Progress.{Progress}
 use Rattle.ring.specs.Model.{Doing, adding, Model, EachOnce}
-use Rattle.ring.specs.Meaning.{Goes, AddMark, TakeMark, MayTurn, Turned}
+use Rattle.ring.specs.Meaning.{Goes, AddMark, TakeMark, MayTurn, Turned, Begun}
 use Rattle.ring.proofs.Entries.{put, put-same, put-other}
 use Rattle.ncq_table.specs.declared.Stage.{Stage}
 use Rattle.ncq_table.specs.declared.Stage.the-variants.{Idle}
@@ -67,6 +67,17 @@ module _ (q : State) (m : Model) (h : Stands q m) (s : ℕ) (here : s < q .stati
     (λ e. subst₂ (P r) (sym (stage-other r e)) (sym (put-other (m .doing) s d r e)) (others r e))
     (cases-eq r s)
 
+  -- where the call is to write no other index than it was
+  pub still-one-writer : ((i : ℕ) → writes st ≡ Some i → writes (stage q s) ≡ Some i) →
+    (r t i : ℕ) → writes (stage (moved q s m' st) r) ≡ Some i → writes (stage (moved q s m' st) t) ≡ Some i → r ≡ t
+  still-one-writer less r t i w v = h .sound .one-writer r t i (wrote r w) (wrote t v)
+    where
+      wrote : (r : ℕ) → writes (stage (moved q s m' st) r) ≡ Some i → writes (stage q r) ≡ Some i
+      wrote r w = ⊎-elim
+        (λ e. ap (λ x. writes (stage q x)) e ∙ less i (sym (ap writes (stage-mine r e)) ∙ w))
+        (λ e. sym (ap writes (stage-other r e)) ∙ w)
+        (cases-eq r s)
+
   module _ (end' : ℕ) (places-stay : m' .places ≡ q .memory .places) (shared : Shared m' end')
       (fits-mine : Fits m' end' st) (fits-others : (r : ℕ) → (r ≡ s → ⊥) → Fits m' end' (stage q r))
       (does-mine : Does m' st d) (does-others : (r : ℕ) → (r ≡ s → ⊥) → Does m' (stage q r) (m .doing r))
@@ -78,6 +89,7 @@ module _ (q : State) (m : Model) (h : Stands q m) (s : ℕ) (here : s < q .stati
       sound = record {
         shared = shared;
         table-room = rw length-set (h .sound .table-room);
+        beyond = λ r l. stage-other r (λ e. omega arith) ∙ h .sound .beyond r l;
         fits = by-station (λ r x y. Fits m' end' x) fits-mine fits-others;
         one-writer = one-writer };
       places = h .places ∙ sym places-stay;
@@ -115,15 +127,10 @@ module _ (q : State) (m : Model) (h : Stands q m) (s : ℕ) (here : s < q .stati
   pub row : (end' : ℕ) → Row-shows end' → Turned Stands m s (Ok a, moved q s m' st)
   row end' p = (then, (may-turn, stands))
     where
-      wrote : (r i : ℕ) → writes (stage (moved q s m' st) r) ≡ Some i → writes (stage q r) ≡ Some i
-      wrote r i w = ⊎-elim
-        (λ e. ap (λ x. writes (stage q x)) e ∙ p .writes-less i (sym (ap writes (stage-mine q m h s here m' st d counts r e)) ∙ w))
-        (λ e. sym (ap writes (stage-other q m h s here m' st d counts r e)) ∙ w)
-        (cases-eq r s)
       stands : Stands (moved q s m' st) then
       stands = built q m h s here m' st d counts end' (p .places-stay) (p .shared) (p .fits-mine) (p .fits-others) (p .does-mine)
         (λ r e. does-on (q .memory) m' (p .tail-on) (p .head-on) (stage q r) (m .doing r) (h .does r))
-        (λ r t i w v. h .sound .one-writer r t i (wrote r i w) (wrote t i v))
+        (still-one-writer q m h s here m' st d counts (p .writes-less))
         (omega (arith, put-same (λ r. 0) s (m .lone s + 1), h .ends-soon s, p .sooner))
         (λ r e. omega (arith, put-other (λ r. 0) s (m .lone s + 1) r e, left-most m' end' (stage q r)))
       may-turn : MayTurn m s a then
@@ -138,3 +145,29 @@ module _ (q : State) (m : Model) (h : Stands q m) (s : ℕ) (here : s < q .stati
         others-alone-no-more = λ r e. put-other (λ r. 0) s (m .lone s + 1) r e;
         soon = λ g. omega (arith, put-same (λ r. 0) s (m .lone s + 1), h .ends-soon s, p .sooner);
         indices = each-once (moved q s m' st) then stands }
+
+-- an accepted begin
+module _ (q : State) (m : Model) (h : Stands q m) (s : ℕ) (here : s < q .stations) (st : Stage) (d : Doing) where
+  abbrev pub begun : Model
+  begun = after q m h s here (q .memory) st d (put (m .lone) s 0)
+
+  pub begins : stage q s ≡ Idle → Fits (q .memory) (h .end) st → Does (q .memory) st d →
+    ((r t i : ℕ) → writes (stage (moved q s (q .memory) st) r) ≡ Some i → writes (stage (moved q s (q .memory) st) t) ≡ Some i → r ≡ t) →
+    (m' : Model) × (Begun m s d m' × Stands (moved q s (q .memory) st) m')
+  begins at fits does one = (begun, (record {
+      station = omega (arith, h .stations);
+      was-idle = subst (λ x. Does (q .memory) x (m .doing s)) at (h .does s);
+      does-now = put-same (m .doing) s d;
+      others = λ r e. put-other (m .doing) s d r e;
+      sizes = record { places = refl; stations = refl; limit = refl };
+      pairs = λ t. sym (h .pairs t);
+      adds = sym (h .adds-at);
+      takes = sym (h .takes-at);
+      none-yet = put-same (m .lone) s 0;
+      counts-stay = λ r e. put-other (m .lone) s 0 r e;
+      indices = each-once (moved q s (q .memory) st) begun stands }, stands))
+    where
+      stands : Stands (moved q s (q .memory) st) begun
+      stands = built q m h s here (q .memory) st d (put (m .lone) s 0) (h .end) refl (h .sound .shared) fits (λ r e. h .sound .fits r) does (λ r e. h .does r) one
+        (omega (arith, put-same (m .lone) s 0, left-most (q .memory) (h .end) st))
+        (λ r e. omega (arith, put-other (m .lone) s 0 r e, h .ends-soon r))

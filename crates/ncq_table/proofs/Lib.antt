@@ -4,3 +4,6 @@ mod Stations
 mod Lone
 mod Built
 mod Turns
+mod Begins
+mod Makes
+pub mod Meaning

@@ -106,6 +106,8 @@ pub record Shared (m : Memory) (e : ℕ) : Type 0 where
 pub record Sound (q : State) (e : ℕ) : Type 0 where
   pub shared : Shared (q .memory) e
   pub table-room : q .stations ≤ length (q .stages)
+  -- nobody else takes part
+  pub beyond : (s : ℕ) → q .stations ≤ s → stage q s ≡ Idle
   pub fits : (s : ℕ) → Fits (q .memory) e (stage q s)
   -- no two stations are to write one index
   pub one-writer : (s r i : ℕ) → writes (stage q s) ≡ Some i → writes (stage q r) ≡ Some i → s ≡ r

@@ -6,6 +6,7 @@ use Prim.Native.Nat.{ℕ, zero, suc, _*_, _^_, _≤_}
 use native.Mathlib.Omega.{arith}
 use lib.Dec.{eqb, leb}
 use Rattle.std.proofs.shelf.Tests.{cond-both, eqb-true, leb-true, le-leb, or-cases, and-parts, and-from, both-ways}
+use lib.Pow.{pow-pos, pow-mono}
 use Rattle.std.specs.declared.result.Result.the-variants.{Ok, Err}
 use Rattle.ring.specs.declared.Refusal.the-variants.{Places, Stations, Limit}
 use Rattle.ring.specs.Sizes.{Sized, Crewed, Limited, MakeRefused, places, stations, limit, is-size, make-checked, Checked}
@@ -54,3 +55,9 @@ checked n k l =
         (λ g. limit refl (sized-true n e) (crewed-true n k f) (limited-false n l g)))
       (λ f. stations refl (sized-true n e) (crewed-false n k f)))
     (λ e. places refl (sized-false n e))
+
+pub sized-low : (n : ℕ) → Sized n → 1 ≤ n
+sized-low n p = omega (arith, p .2, pow-pos (p .0))
+
+pub sized-high : (n : ℕ) → Sized n → n ≤ 64
+sized-high n p = omega (arith, p .2, pow-mono {j = 6} (p .1))
