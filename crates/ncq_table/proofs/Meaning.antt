@@ -5,9 +5,9 @@ use Prim.Native.Nat.{ℕ}
 use lib.Dec.{ltb}
 use Rattle.std.proofs.shelf.Tests.{cond-both, both-ways}
 use Rattle.std.specs.declared.result.Result.the-variants.{Ok, Err}
-use Rattle.ring.specs.Meaning.{Kept}
-use Rattle.ncq_table.specs.Table.{Row, State, Outcome, stage, step, carried, is-idle, is-outside, adds, takes, turns}
-use Rattle.ncq_table.specs.Theorem.{TableHasMeaning}
+use Rattle.ring.specs.Meaning.{Kept, HasMeaning}
+use Rattle.ncq_table.specs.Table.{Row, State, Outcome, stage, step, carried, is-idle, is-outside, empty, full, adds, takes, turns}
+use Rattle.ncq_table.specs.Stands.{Stands}
 use Rattle.ncq_table.proofs.Turns.{means-turn}
 use Rattle.ncq_table.proofs.Begins.{means-add, means-take}
 use Rattle.ncq_table.proofs.Makes.{means-empty, means-full}
@@ -38,8 +38,9 @@ refused-add q s i = cond-both (ltb s (q .stations)) _ _ (Kept q)
     (λ d e. refl))
   (λ c e. refl)
 
-pub table-means : TableHasMeaning
+pub table-means : HasMeaning State Stands empty full adds takes turns
 table-means = record {
-  refused-add = refused-add; refused-take = refused-take; refused-turn = refused-turn;
-  means-empty = means-empty; means-full = means-full;
-  means-add = means-add; means-take = means-take; means-turn = means-turn }
+  empty-means = means-empty; full-means = means-full;
+  add-kept = refused-add; add-means = means-add;
+  take-kept = refused-take; take-means = means-take;
+  turn-kept = refused-turn; turn-means = means-turn }

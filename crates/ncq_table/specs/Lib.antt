@@ -1,3 +1,3 @@
 pub mod Table
 pub mod Stands
-pub mod Theorem
+pub mod Example

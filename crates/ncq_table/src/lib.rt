@@ -1,6 +1,9 @@
 // The naive circular queue as a table of steps, and the theorem that the table has a ring's meaning.
 
-ghost use Rattle.ncq_table.specs.Theorem.{Table-has-the-meaning};
+ghost use Rattle.ring.specs.Meaning.{HasMeaning};
+ghost use Rattle.ncq_table.specs.Table.{State, empty, full, adds, takes, turns};
+ghost use Rattle.ncq_table.specs.Stands.{Stands};
+ghost use Rattle.ncq_table.specs.Example.{Mid-add-stands};
 
 // Where a station's call stands: the step that its next turn makes, with the station's own registers.
 // N1 to N5 add an index, N6 to N8 take one.
@@ -28,6 +31,13 @@ pub enum Stage {
 
 // Whatever calls come, in whatever order, the table does what a ring may do.
 pub fn table_has_the_meaning()
-    ensures { λ _. ⌜ Table-has-the-meaning ⌝ }
+    ensures { λ _. ⌜ HasMeaning State Stands empty full adds takes turns ⌝ }
+{
+}
+
+// A ring of one place whose add has written its word, and has not yet moved Tail, stands for a model
+// with the pair under ticket 1.
+pub fn mid_add_stands()
+    ensures { λ _. ⌜ Mid-add-stands 1 ⌝ }
 {
 }

@@ -6,6 +6,7 @@
 -- AddBegun         what a begin-add may answer and do
 -- TakeBegun        what a begin-take may answer and do
 -- Turned           what a turn may answer and do
+-- HasMeaning       the exact outcomes of a ring's calls do all that
 --
 -- Assumes nothing.
 use mathlib.Core.Path.{_≡_}
@@ -216,3 +217,16 @@ TurnedAs stands m s (Err e) q' = TurnRefused m s e
 
 abbrev pub Turned : {S : Type 0} → (S → Model → Type 0) → Model → ℕ → Result Progress Refusal × S → Type 0
 Turned stands m s p = TurnedAs stands m s (p .0) (p .1)
+
+-- the whole of it, of the exact outcomes of the two makes, the two begins and the turn
+
+pub record HasMeaning (S : Type 0) (stands : S → Model → Type 0) (empty full : ℕ → ℕ → ℕ → Result S Refusal)
+    (adds : S → ℕ → ℕ → Result Progress Refusal × S) (takes turns : S → ℕ → Result Progress Refusal × S) : Type 0 where
+  pub empty-means : (n k l : ℕ) → MadeEmpty stands n k l (empty n k l)
+  pub full-means : (n k l : ℕ) → MadeFull stands n k l (full n k l)
+  pub add-kept : (q : S) (s i : ℕ) → Kept q (adds q s i)
+  pub add-means : (q : S) (s i : ℕ) (m : Model) → stands q m → AddBegun stands m s i (adds q s i)
+  pub take-kept : (q : S) (s : ℕ) → Kept q (takes q s)
+  pub take-means : (q : S) (s : ℕ) (m : Model) → stands q m → TakeBegun stands m s (takes q s)
+  pub turn-kept : (q : S) (s : ℕ) → Kept q (turns q s)
+  pub turn-means : (q : S) (s : ℕ) (m : Model) → stands q m → Turned stands m s (turns q s)

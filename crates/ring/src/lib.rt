@@ -11,7 +11,7 @@ ghost use Rattle.ring.specs.Sizes.{make-checked, Checked};
 ghost use Rattle.ring.specs.declared.Refusal.{Refusal};
 ghost use Rattle.ring.specs.declared.Progress.{Progress};
 ghost use Rattle.ring.specs.Model.{Model};
-ghost use Rattle.ring.specs.Meaning.{viewed, Kept, MadeEmpty, MadeFull, AddBegun, TakeBegun, Turned};
+ghost use Rattle.ring.specs.Meaning.{viewed, Kept, MadeEmpty, MadeFull, AddBegun, TakeBegun, Turned, HasMeaning};
 
 // What a caller is told of an accepted call.
 #[derive(Clone, Copy)]
@@ -136,8 +136,7 @@ fn ask_sizes(places: usize, stations: usize, limit: usize) -> Result<(), Refusal
 //
 // Each call has three clauses. `outcome` is exact: the answer and the ring's whole state after it.
 // `refused` says that a refused call leaves the ring as it was. `meaning` says what the call does
-// to the model that the ring stands for. The laws say the last two of the exact outcomes alone, so
-// that code over any ring can reason about states without the calls.
+// to the model that the ring stands for.
 pub trait Ring: Sized + Drop {
     // the ring's own state, as a type of the specification, and how a ring shows it
     ghost state: { Type 0 };
@@ -153,14 +152,8 @@ pub trait Ring: Sized + Drop {
     // the models that a state stands for
     ghost stands: { state → Model → Type 0 };
 
-    law refused_add: { (q : state) (s i : ℕ) → Kept q (adds q s i) };
-    law refused_take: { (q : state) (s : ℕ) → Kept q (takes q s) };
-    law refused_turn: { (q : state) (s : ℕ) → Kept q (turns q s) };
-    law means_empty: { (n k l : ℕ) → MadeEmpty stands n k l (empty n k l) };
-    law means_full: { (n k l : ℕ) → MadeFull stands n k l (full n k l) };
-    law means_add: { (q : state) (s i : ℕ) (m : Model) → stands q m → AddBegun stands m s i (adds q s i) };
-    law means_take: { (q : state) (s : ℕ) (m : Model) → stands q m → TakeBegun stands m s (takes q s) };
-    law means_turn: { (q : state) (s : ℕ) (m : Model) → stands q m → Turned stands m s (turns q s) };
+    // so that code over any ring can reason about states without the calls
+    law means: { HasMeaning state stands empty full adds takes turns };
 
     // A ring with no pair.
     fn make_empty(places: usize, stations: usize, limit: usize) -> Result<Self, Refusal>
