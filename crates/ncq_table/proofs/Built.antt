@@ -25,20 +25,25 @@ use Rattle.ncq_table.proofs.Lone.{left-most}
 -- every index is outside, being added or in one pair
 pub each-once : (q : State) (m : Model) → Stands q m → EachOnce m
 each-once q m h = record {
-    pair-below = λ t i p. omega (arith, h .places, (found t i p) .2, mod-lt (word mem t) (h .sound .shared .some-place));
-    added-below = λ s i f p. omega (arith, h .places, writer s i f p .0);
-    one-pair = λ t u i p r. h .sound .shared .apart t u (found t i p .0) (low t i p) (found u i r .0) (low u i r) (found t i p .2 ∙ sym (found u i r .2));
-    one-adder = λ s r i f g p t. h .sound .one-writer s r i (writing s i f p) (writing r i g t);
-    not-both = λ t s i f p r. writer s i f r .1 t (found t i p .0) (low t i p) (found t i p .2) }
+  pair-below = λ t i p. omega (arith, h .places, (found t i p) .2, mod-lt (word mem t) (h .sound .shared .some-place));
+  added-below = λ s i f p. omega (arith, h .places, writer s i f p .0);
+  one-pair = λ t u i p r. h .sound .shared .apart t u (found t i p .0) (low t i p) (found u i r .0) (low u i r) (found t i p .2 ∙ sym (found u i r .2));
+  one-adder = λ s r i f g p t. h .sound .one-writer s r i (writing s i f p) (writing r i g t);
+  not-both = λ t s i f p r. writer s i f r .1 t (found t i p .0) (low t i p) (found t i p .2);
+}
   where
     mem : Memory
     mem = q .memory
+
     found : (t i : ℕ) → m .under t ≡ Some i → (mem .head ≤ t) × (cycle (mem .places) (word mem t) ≡ cycle (mem .places) t) × (index (mem .places) (word mem t) ≡ i)
     found t i p = pair-is mem t i (sym (h .pairs t) ∙ p)
+
     low : (t i : ℕ) → m .under t ≡ Some i → t < h .end
     low t i p = filled-low mem (h .end) (h .sound .shared) t (found t i p .1)
+
     writing : (s i f : ℕ) → m .doing s ≡ adding i f → writes (stage q s) ≡ Some i
     writing s i f p = adding-writes mem (stage q s) (m .doing s) i f (h .does s) p
+
     writer : (s i f : ℕ) → m .doing s ≡ adding i f → (i < mem .places) × Absent mem (h .end) i
     writer s i f p = writes-fits mem (h .end) (stage q s) i (h .sound .fits s) (writing s i f p)
 
@@ -46,9 +51,15 @@ each-once q m h = record {
 module _ (q : State) (m : Model) (h : Stands q m) (s : ℕ) (here : s < q .stations) (m' : Memory) (st : Stage) (d : Doing) (c : ℕ → ℕ) where
   abbrev pub after : Model
   after = record {
-    places = m .places; stations = m .stations; limit = m .limit;
-    under = pair m'; add-mark = m' .tail; take-mark = m' .head;
-    doing = put (m .doing) s d; lone = c }
+    places = m .places;
+    stations = m .stations;
+    limit = m .limit;
+    under = pair m';
+    add-mark = m' .tail;
+    take-mark = m' .head;
+    doing = put (m .doing) s d;
+    lone = c;
+  }
 
   pub stage-mine : (r : ℕ) → r ≡ s → stage (moved q s m' st) r ≡ st
   stage-mine r e = ap (λ x. stage (moved q s m' st) x) e ∙ getD-set-same (q .stages) s st Idle (omega (arith, h .sound .table-room))
@@ -61,22 +72,22 @@ module _ (q : State) (m : Model) (h : Stands q m) (s : ℕ) (here : s < q .stati
 
   -- by the station itself, and by each other
   by-station : (P : ℕ → Stage → Doing → Type 0) → P s st d → ((r : ℕ) → (r ≡ s → ⊥) → P r (stage q r) (m .doing r)) →
-    (r : ℕ) → P r (stage (moved q s m' st) r) (put (m .doing) s d r)
+      (r : ℕ) → P r (stage (moved q s m' st) r) (put (m .doing) s d r)
   by-station P mine others r = ⊎-elim
-    (λ e. subst₂ (P r) (sym (stage-mine r e)) (sym (doing-mine r e)) (subst (λ x. P x st d) (sym e) mine))
-    (λ e. subst₂ (P r) (sym (stage-other r e)) (sym (put-other (m .doing) s d r e)) (others r e))
-    (cases-eq r s)
+      (λ e. subst₂ (P r) (sym (stage-mine r e)) (sym (doing-mine r e)) (subst (λ x. P x st d) (sym e) mine))
+      (λ e. subst₂ (P r) (sym (stage-other r e)) (sym (put-other (m .doing) s d r e)) (others r e))
+      (cases-eq r s)
 
   -- where the call is to write no other index than it was
   pub still-one-writer : ((i : ℕ) → writes st ≡ Some i → writes (stage q s) ≡ Some i) →
-    (r t i : ℕ) → writes (stage (moved q s m' st) r) ≡ Some i → writes (stage (moved q s m' st) t) ≡ Some i → r ≡ t
+      (r t i : ℕ) → writes (stage (moved q s m' st) r) ≡ Some i → writes (stage (moved q s m' st) t) ≡ Some i → r ≡ t
   still-one-writer less r t i w v = h .sound .one-writer r t i (wrote r w) (wrote t v)
     where
       wrote : (r : ℕ) → writes (stage (moved q s m' st) r) ≡ Some i → writes (stage q r) ≡ Some i
       wrote r w = ⊎-elim
-        (λ e. ap (λ x. writes (stage q x)) e ∙ less i (sym (ap writes (stage-mine r e)) ∙ w))
-        (λ e. sym (ap writes (stage-other r e)) ∙ w)
-        (cases-eq r s)
+          (λ e. ap (λ x. writes (stage q x)) e ∙ less i (sym (ap writes (stage-mine r e)) ∙ w))
+          (λ e. sym (ap writes (stage-other r e)) ∙ w)
+          (cases-eq r s)
 
   module _ (end' : ℕ) (places-stay : m' .places ≡ q .memory .places) (shared : Shared m' end')
       (fits-mine : Fits m' end' st) (fits-others : (r : ℕ) → (r ≡ s → ⊥) → Fits m' end' (stage q r))
@@ -91,7 +102,8 @@ module _ (q : State) (m : Model) (h : Stands q m) (s : ℕ) (here : s < q .stati
         table-room = rw length-set (h .sound .table-room);
         beyond = λ r l. stage-other r (λ e. omega arith) ∙ h .sound .beyond r l;
         fits = by-station (λ r x y. Fits m' end' x) fits-mine fits-others;
-        one-writer = one-writer };
+        one-writer = one-writer;
+      };
       places = h .places ∙ sym places-stay;
       stations = h .stations;
       limit = h .limit;
@@ -99,7 +111,8 @@ module _ (q : State) (m : Model) (h : Stands q m) (s : ℕ) (here : s < q .stati
       adds-at = refl;
       takes-at = refl;
       does = by-station (λ r x y. Does m' x y) does-mine does-others;
-      ends-soon = by-station (λ r x y. c r + left m' end' x ≤ 9) soon-mine soon-others }
+      ends-soon = by-station (λ r x y. c r + left m' end' x ≤ 9) soon-mine soon-others;
+    }
 
 -- an accepted turn
 module _ (q : State) (m : Model) (h : Stands q m) (s : ℕ) (here : s < q .stations) (a : Progress) (m' : Memory) (st : Stage) (d : Doing) where
@@ -129,10 +142,11 @@ module _ (q : State) (m : Model) (h : Stands q m) (s : ℕ) (here : s < q .stati
     where
       stands : Stands (moved q s m' st) then
       stands = built q m h s here m' st d counts end' (p .places-stay) (p .shared) (p .fits-mine) (p .fits-others) (p .does-mine)
-        (λ r e. does-on (q .memory) m' (p .tail-on) (p .head-on) (stage q r) (m .doing r) (h .does r))
-        (still-one-writer q m h s here m' st d counts (p .writes-less))
-        (omega (arith, put-same (λ r. 0) s (m .lone s + 1), h .ends-soon s, p .sooner))
-        (λ r e. omega (arith, put-other (λ r. 0) s (m .lone s + 1) r e, left-most m' end' (stage q r)))
+          (λ r e. does-on (q .memory) m' (p .tail-on) (p .head-on) (stage q r) (m .doing r) (h .does r))
+          (still-one-writer q m h s here m' st d counts (p .writes-less))
+          (omega (arith, put-same (λ r. 0) s (m .lone s + 1), h .ends-soon s, p .sooner))
+          (λ r e. omega (arith, put-other (λ r. 0) s (m .lone s + 1) r e, left-most m' end' (stage q r)))
+
       may-turn : MayTurn m s a then
       may-turn = record {
         station = omega (arith, h .stations);
@@ -144,7 +158,8 @@ module _ (q : State) (m : Model) (h : Stands q m) (s : ℕ) (here : s < q .stati
         one-more = put-same (λ r. 0) s (m .lone s + 1);
         others-alone-no-more = λ r e. put-other (λ r. 0) s (m .lone s + 1) r e;
         soon = λ g. omega (arith, put-same (λ r. 0) s (m .lone s + 1), h .ends-soon s, p .sooner);
-        indices = each-once (moved q s m' st) then stands }
+        indices = each-once (moved q s m' st) then stands;
+      }
 
 -- an accepted begin
 module _ (q : State) (m : Model) (h : Stands q m) (s : ℕ) (here : s < q .stations) (st : Stage) (d : Doing) where
@@ -152,22 +167,29 @@ module _ (q : State) (m : Model) (h : Stands q m) (s : ℕ) (here : s < q .stati
   begun = after q m h s here (q .memory) st d (put (m .lone) s 0)
 
   pub begins : stage q s ≡ Idle → Fits (q .memory) (h .end) st → Does (q .memory) st d →
-    ((r t i : ℕ) → writes (stage (moved q s (q .memory) st) r) ≡ Some i → writes (stage (moved q s (q .memory) st) t) ≡ Some i → r ≡ t) →
-    (m' : Model) × (Begun m s d m' × Stands (moved q s (q .memory) st) m')
-  begins at fits does one = (begun, (record {
-      station = omega (arith, h .stations);
-      was-idle = subst (λ x. Does (q .memory) x (m .doing s)) at (h .does s);
-      does-now = put-same (m .doing) s d;
-      others = λ r e. put-other (m .doing) s d r e;
-      sizes = record { places = refl; stations = refl; limit = refl };
-      pairs = λ t. sym (h .pairs t);
-      adds = sym (h .adds-at);
-      takes = sym (h .takes-at);
-      none-yet = put-same (m .lone) s 0;
-      counts-stay = λ r e. put-other (m .lone) s 0 r e;
-      indices = each-once (moved q s (q .memory) st) begun stands }, stands))
+      ((r t i : ℕ) → writes (stage (moved q s (q .memory) st) r) ≡ Some i → writes (stage (moved q s (q .memory) st) t) ≡ Some i → r ≡ t) →
+      (m' : Model) × (Begun m s d m' × Stands (moved q s (q .memory) st) m')
+  begins at fits does one = (
+    begun,
+    (
+      record {
+        station = omega (arith, h .stations);
+        was-idle = subst (λ x. Does (q .memory) x (m .doing s)) at (h .does s);
+        does-now = put-same (m .doing) s d;
+        others = λ r e. put-other (m .doing) s d r e;
+        sizes = record { places = refl; stations = refl; limit = refl };
+        pairs = λ t. sym (h .pairs t);
+        adds = sym (h .adds-at);
+        takes = sym (h .takes-at);
+        none-yet = put-same (m .lone) s 0;
+        counts-stay = λ r e. put-other (m .lone) s 0 r e;
+        indices = each-once (moved q s (q .memory) st) begun stands;
+      },
+      stands,
+    ),
+  )
     where
       stands : Stands (moved q s (q .memory) st) begun
       stands = built q m h s here (q .memory) st d (put (m .lone) s 0) (h .end) refl (h .sound .shared) fits (λ r e. h .sound .fits r) does (λ r e. h .does r) one
-        (omega (arith, put-same (m .lone) s 0, left-most (q .memory) (h .end) st))
-        (λ r e. omega (arith, put-other (m .lone) s 0 r e, h .ends-soon r))
+          (omega (arith, put-same (m .lone) s 0, left-most (q .memory) (h .end) st))
+          (λ r e. omega (arith, put-other (m .lone) s 0 r e, h .ends-soon r))

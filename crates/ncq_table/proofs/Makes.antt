@@ -37,8 +37,15 @@ module _ (n k l h : ℕ) (ws : List ℕ) (sized : Sized n) (few : k ≤ n) (low 
 
   abbrev pub new : Model
   new = record {
-    places = n; stations = k; limit = l; under = pair (q .memory); add-mark = n; take-mark = h;
-    doing = λ s. idle; lone = λ s. 0 }
+    places = n;
+    stations = k;
+    limit = l;
+    under = pair (q .memory);
+    add-mark = n;
+    take-mark = h;
+    doing = λ s. idle;
+    lone = λ s. 0;
+  }
 
   pub new-stands : Stands q new
   new-stands = record {
@@ -48,16 +55,28 @@ module _ (n k l h : ℕ) (ws : List ℕ) (sized : Sized n) (few : k ≤ n) (low 
       table-room = omega (arith, length-replicate 64 Idle, sized-high n sized);
       beyond = λ s g. all-idle s;
       fits = λ s. subst (Fits (q .memory) n) (sym (all-idle s)) tt;
-      one-writer = λ s r i w v. absurd (some-none i (sym w ∙ ap writes (all-idle s))) };
-    places = refl; stations = refl; limit = refl;
-    pairs = λ t. refl; adds-at = refl; takes-at = refl;
+      one-writer = λ s r i w v. absurd (some-none i (sym w ∙ ap writes (all-idle s)));
+    };
+    places = refl;
+    stations = refl;
+    limit = refl;
+    pairs = λ t. refl;
+    adds-at = refl;
+    takes-at = refl;
     does = λ s. subst (λ x. Does (q .memory) x idle) (sym (all-idle s)) refl;
-    ends-soon = λ s. subst (λ x. 0 + left (q .memory) n x ≤ 9) (sym (all-idle s)) (omega arith) }
+    ends-soon = λ s. subst (λ x. 0 + left (q .memory) n x ≤ 9) (sym (all-idle s)) (omega arith);
+  }
 
   pub is-new : New n k l new
   is-new = record {
-    places = refl; stations = refl; limit = refl; idle-all = λ s. refl;
-    add-low = omega arith; take-low = omega arith; indices = each-once q new new-stands }
+    places = refl;
+    stations = refl;
+    limit = refl;
+    idle-all = λ s. refl;
+    add-low = omega arith;
+    take-low = omega arith;
+    indices = each-once q new new-stands;
+  }
 
 -- empty: all words 0
 
@@ -72,9 +91,13 @@ module _ (n : ℕ) (sized : Sized n) (k l : ℕ) where
   empty-shared = record {
     some-place = sized-low n sized;
     room = omega (arith, length-replicate {A = ℕ} 64 0, sized-high n sized);
-    tail-low = omega arith; tail-near = omega arith; past = omega arith; head-low = omega arith;
+    tail-low = omega arith;
+    tail-near = omega arith;
+    past = omega arith;
+    head-low = omega arith;
     window = λ u a b. ap (cycle n) (zero-word u) ∙ (zero-div n ∙ sym (div-eq-of-lt a));
-    apart = λ u v a b c d e. absurd (omega arith) }
+    apart = λ u v a b c d e. absurd (omega arith);
+  }
 
   no-pairs : (t : ℕ) → pair empty-memory t ≡ None
   no-pairs t = ⊎-elim (λ a. pair-passed empty-memory t a) (λ g. pair-cycle empty-memory t (λ c. omega (arith, filled-low empty-memory n empty-shared t c))) (cases-lt t n)
@@ -88,7 +111,7 @@ module _ (n : ℕ) (sized : Sized n) (k l : ℕ) where
   full-at : (j : ℕ) → j < n → getD (full-words n) j 0 ≡ j
   unfolding full-words
   full-at j a = getD-map-counting (λ j. cond (ltb j n) (join n 0 j) 0) 0 64 j j 0 (omega (arith, sized-high n sized)) (omega arith)
-    ∙ (cond-true (ltb j n) (join n 0 j) 0 (lt-ltb j n a) ∙ omega arith)
+      ∙ (cond-true (ltb j n) (join n 0 j) 0 (lt-ltb j n a) ∙ omega arith)
 
   full-long : length (full-words n) ≡ 64
   unfolding full-words
@@ -104,9 +127,13 @@ module _ (n : ℕ) (sized : Sized n) (k l : ℕ) where
   full-shared = record {
     some-place = sized-low n sized;
     room = omega (arith, full-long, sized-high n sized);
-    tail-low = omega arith; tail-near = omega arith; past = omega arith; head-low = omega arith;
+    tail-low = omega arith;
+    tail-near = omega arith;
+    past = omega arith;
+    head-low = omega arith;
     window = λ u a b. ap (cycle n) (full-word u a);
-    apart = λ u v a b c d e. sym (full-index u b) ∙ (e ∙ full-index v d) }
+    apart = λ u v a b c d e. sym (full-index u b) ∙ (e ∙ full-index v d);
+  }
 
   all-pairs : (i : ℕ) → i < n → (t : ℕ) × (pair full-memory t ≡ Some i)
   all-pairs i a = (i, pair-there full-memory i (omega arith) (ap (cycle n) (full-word i a)) ∙ ap Some (full-index i a))
@@ -116,9 +143,13 @@ means-empty n k l = go (make-checked n k l) (checked n k l)
   where
     go : (r : Result (Unit {0}) Refusal) → Checked n k l r → MadeEmpty Stands n k l (made r (new-ring n k l n (replicate 64 0)))
     go (Ok u) c =
-      let sh = empty-shared n (c .0) k l in
-      (c, (new n k l n (replicate 64 0) (c .0) (c .1 .1) (omega arith) sh,
-        (is-new n k l n (replicate 64 0) (c .0) (c .1 .1) (omega arith) sh, no-pairs n (c .0) k l, new-stands n k l n (replicate 64 0) (c .0) (c .1 .1) (omega arith) sh)))
+        let sh = empty-shared n (c .0) k l in (
+          c,
+          (
+            new n k l n (replicate 64 0) (c .0) (c .1 .1) (omega arith) sh,
+            (is-new n k l n (replicate 64 0) (c .0) (c .1 .1) (omega arith) sh, no-pairs n (c .0) k l, new-stands n k l n (replicate 64 0) (c .0) (c .1 .1) (omega arith) sh),
+          ),
+        )
     go (Err e) c = c
 
 pub means-full : (n k l : ℕ) → MadeFull Stands n k l (full n k l)
@@ -126,7 +157,11 @@ means-full n k l = go (make-checked n k l) (checked n k l)
   where
     go : (r : Result (Unit {0}) Refusal) → Checked n k l r → MadeFull Stands n k l (made r (new-ring n k l 0 (full-words n)))
     go (Ok u) c =
-      let sh = full-shared n (c .0) k l in
-      (c, (new n k l 0 (full-words n) (c .0) (c .1 .1) (omega arith) sh,
-        (is-new n k l 0 (full-words n) (c .0) (c .1 .1) (omega arith) sh, all-pairs n (c .0) k l, new-stands n k l 0 (full-words n) (c .0) (c .1 .1) (omega arith) sh)))
+        let sh = full-shared n (c .0) k l in (
+          c,
+          (
+            new n k l 0 (full-words n) (c .0) (c .1 .1) (omega arith) sh,
+            (is-new n k l 0 (full-words n) (c .0) (c .1 .1) (omega arith) sh, all-pairs n (c .0) k l, new-stands n k l 0 (full-words n) (c .0) (c .1 .1) (omega arith) sh),
+          ),
+        )
     go (Err e) c = c

@@ -26,21 +26,26 @@ refused-turn q s = cond-both (ltb s (q .stations)) _ _ (Kept q) (λ c. carried-k
 
 refused-take : (q : State) (s : ℕ) → Kept q (takes q s)
 refused-take q s = cond-both (ltb s (q .stations)) _ _ (Kept q)
-  (λ c. cond-both (is-idle (stage q s)) _ _ (Kept q) (λ d e. accepted e) (λ d e. refl))
-  (λ c e. refl)
+    (λ c. cond-both (is-idle (stage q s)) _ _ (Kept q) (λ d e. accepted e) (λ d e. refl))
+    (λ c e. refl)
 
 refused-add : (q : State) (s i : ℕ) → Kept q (adds q s i)
 refused-add q s i = cond-both (ltb s (q .stations)) _ _ (Kept q)
-  (λ c. cond-both (is-idle (stage q s)) _ _ (Kept q)
+    (λ c. cond-both (is-idle (stage q s)) _ _ (Kept q)
     (λ d. cond-both (ltb i (q .memory .places)) _ _ (Kept q)
-      (λ l. cond-both (is-outside q i) _ _ (Kept q) (λ o e. accepted e) (λ o e. refl))
-      (λ l e. refl))
+    (λ l. cond-both (is-outside q i) _ _ (Kept q) (λ o e. accepted e) (λ o e. refl))
+    (λ l e. refl))
     (λ d e. refl))
-  (λ c e. refl)
+    (λ c e. refl)
 
 pub table-means : HasMeaning State Stands empty full adds takes turns
 table-means = record {
-  empty-means = means-empty; full-means = means-full;
-  add-kept = refused-add; add-means = means-add;
-  take-kept = refused-take; take-means = means-take;
-  turn-kept = refused-turn; turn-means = means-turn }
+  empty-means = means-empty;
+  full-means = means-full;
+  add-kept = refused-add;
+  add-means = means-add;
+  take-kept = refused-take;
+  take-means = means-take;
+  turn-kept = refused-turn;
+  turn-means = means-turn;
+}

@@ -30,10 +30,10 @@ module _ (m : Memory) (t : ℕ) where
   pair-cycle c = cond-false here _ _ (and-right (leb (m .head) t) _ (ne-eqb (cycle (m .places) (word m t)) (cycle (m .places) t) c))
 
   pub pair-is : (i : ℕ) → pair m t ≡ Some i →
-    (m .head ≤ t) × (cycle (m .places) (word m t) ≡ cycle (m .places) t) × (index (m .places) (word m t) ≡ i)
+      (m .head ≤ t) × (cycle (m .places) (word m t) ≡ cycle (m .places) t) × (index (m .places) (word m t) ≡ i)
   pair-is i e = go here refl
     where
       go : (b : Bool) → here ≡ b → (m .head ≤ t) × (cycle (m .places) (word m t) ≡ cycle (m .places) t) × (index (m .places) (word m t) ≡ i)
       go true h = let p = and-parts _ _ h in
-        (leb-true _ _ (p .0), eqb-true _ _ (p .1), some-value _ _ (sym (cond-true here _ _ h) ∙ e))
+          (leb-true _ _ (p .0), eqb-true _ _ (p .1), some-value _ _ (sym (cond-true here _ _ h) ∙ e))
       go false h = absurd (some-none i (sym e ∙ cond-false here _ _ h))

@@ -62,8 +62,10 @@ writes-fits m e st i p w = go st p w
   where
     at : (j : ℕ) → Some j ≡ Some i → (j < m .places) → Absent m e j → (i < m .places) × Absent m e i
     at j q l a = let r : j ≡ i = cc in rw (← r) (l, a)
+
     no-index : None ≡ Some i → (i < m .places) × Absent m e i
     no-index q = absurd (let z : _≡_ {A = ℕ} 0 1 = cc in omega arith)
+
     go : (st : Stage) → Fits m e st → writes st ≡ Some i → (i < m .places) × Absent m e i
     go Idle p w = no-index w
     go (N1 j) p w = at j w (p .0) (p .1)
@@ -111,6 +113,7 @@ fits-head m e st p = go st p
   where
     later : (i : ℕ) → Absent m e i → Absent (head-up m) e i
     later i a u l = a u (omega arith)
+
     go : (st : Stage) → Fits m e st → Fits (head-up m) e st
     go Idle p = p
     go (N1 i) p = (p .0, later i (p .1))
@@ -145,34 +148,37 @@ module _ (m : Memory) (e : ℕ) (h : Shared m e) (i : ℕ) (small : i < m .place
 
   pub shared-word : Shared word-in (e + 1)
   shared-word = record {
-      some-place = h .some-place;
-      room = rw length-set (h .room);
-      tail-low = omega (arith, h .tail-low);
-      tail-near = omega arith;
-      past = omega (arith, h .past);
-      window = window;
-      head-low = omega (arith, h .head-low);
-      apart = apart }
+    some-place = h .some-place;
+    room = rw length-set (h .room);
+    tail-low = omega (arith, h .tail-low);
+    tail-near = omega arith;
+    past = omega (arith, h .past);
+    window = window;
+    head-low = omega (arith, h .head-low);
+    apart = apart;
+  }
     where
       window : (u : ℕ) → u < e + 1 → e + 1 ≤ u + m .places → cycle (m .places) (word word-in u) ≡ cycle (m .places) u
       window u l r = ⊎-elim
-        (λ lt. ap (cycle (m .places)) (word-elsewhere u (slots-differ (m .places) u e lt (omega arith))) ∙ h .window u lt (omega arith))
-        (λ ge. let q : u ≡ e = omega arith in ap (λ x. cycle (m .places) (word word-in x)) q ∙ (cycle-there ∙ ap (cycle (m .places)) (sym q)))
-        (cases-lt u e)
+          (λ lt. ap (cycle (m .places)) (word-elsewhere u (slots-differ (m .places) u e lt (omega arith))) ∙ h .window u lt (omega arith))
+          (λ ge. let q : u ≡ e = omega arith in ap (λ x. cycle (m .places) (word word-in x)) q ∙ (cycle-there ∙ ap (cycle (m .places)) (sym q)))
+          (cases-lt u e)
+
       apart : (u v : ℕ) → m .head ≤ u → u < e + 1 → m .head ≤ v → v < e + 1 → index (m .places) (word word-in u) ≡ index (m .places) (word word-in v) → u ≡ v
       apart u v a b c d p = ⊎-elim
-        (λ x. ⊎-elim
+          (λ x. ⊎-elim
           (λ y. h .apart u v a x c y (sym (old u a x) ∙ (p ∙ old v c y)))
           (λ y. absurd (absent u a x (sym (old u a x) ∙ (p ∙ new v (omega arith)))))
           (cases-lt v e))
-        (λ x. ⊎-elim
+          (λ x. ⊎-elim
           (λ y. absurd (absent v c y (sym (old v c y) ∙ (sym p ∙ new u (omega arith)))))
           (λ y. omega arith)
           (cases-lt v e))
-        (cases-lt u e)
+          (cases-lt u e)
         where
           old : (u : ℕ) → m .head ≤ u → u < e → index (m .places) (word word-in u) ≡ index (m .places) (word m u)
           old u a x = ap (index (m .places)) (pairs-stay u a x)
+
           new : (u : ℕ) → u ≡ e → index (m .places) (word word-in u) ≡ i
           new u q = ap (λ x. index (m .places) (word word-in x)) q ∙ index-there
 
@@ -181,15 +187,17 @@ module _ (m : Memory) (e : ℕ) (h : Shared m e) (i : ℕ) (small : i < m .place
     where
       later : (j : ℕ) → (Some j ≡ Some i → ⊥) → Absent m e j → Absent word-in (e + 1) j
       later j o a u l k q = ⊎-elim
-        (λ x. a u l x (sym (ap (index (m .places)) (pairs-stay u l x)) ∙ q))
-        (λ x. let r : u ≡ e = omega arith in o (ap Some (sym q ∙ (ap (λ x. index (m .places) (word word-in x)) r ∙ index-there))))
-        (cases-lt u e)
+          (λ x. a u l x (sym (ap (index (m .places)) (pairs-stay u l x)) ∙ q))
+          (λ x. let r : u ≡ e = omega arith in o (ap Some (sym q ∙ (ap (λ x. index (m .places) (word word-in x)) r ∙ index-there))))
+          (cases-lt u e)
+
       same : (t w : ℕ) → cycle (m .places) w ≡ cycle (m .places) t → (t ≡ m .head → w ≡ word m t) → t ≡ m .head → w ≡ word word-in t
       same t w c k q = ⊎-elim
-        (λ x. k q ∙ sym (pairs-stay t (omega arith) x))
-        (λ x. absurd (let r : t ≡ e = omega (arith, h .head-low) in
+          (λ x. k q ∙ sym (pairs-stay t (omega arith) x))
+          (λ x. absurd (let r : t ≡ e = omega (arith, h .head-low) in
           omega (arith, at-end m e h, c, ap (cycle (m .places)) (k q), ap (λ x. cycle (m .places) (word m x)) r, ap (cycle (m .places)) r)))
-        (cases-lt t e)
+          (cases-lt t e)
+
       go : (st : Stage) → (writes st ≡ Some i → ⊥) → Fits m e st → Fits word-in (e + 1) st
       go Idle o p = p
       go (N1 j) o p = (p .0, later j o (p .1))
@@ -214,32 +222,45 @@ module _ (m : Memory) (e : ℕ) (h : Shared m e) (i : ℕ) (small : i < m .place
     where
       same-slot : slot (m .places) t ≡ slot (m .places) e → pair word-in t ≡ pair m t
       same-slot q = ⊎-elim
-        (λ low. pair-passed word-in t low ∙ sym (pair-passed m t low))
-        (λ k. pair-cycle word-in t (λ c. d (same-ticket (m .places) t e q (sym c ∙ (ap (cycle (m .places)) (same-word word-in t e q) ∙ cycle-there))))
+          (λ low. pair-passed word-in t low ∙ sym (pair-passed m t low))
+          (λ k. pair-cycle word-in t (λ c. d (same-ticket (m .places) t e q (sym c ∙ (ap (cycle (m .places)) (same-word word-in t e q) ∙ cycle-there))))
           ∙ sym (pair-cycle m t (λ c. slots-differ (m .places) t e (filled-low m e h t c) (omega (arith, fewer m e h i small absent)) q)))
-        (cases-lt t (m .head))
+          (cases-lt t (m .head))
 
 -- Tail has moved on to the last pair
 
 pub shared-tail : (m : Memory) (e : ℕ) → Shared m e → m .tail < e → Shared (tail-up m) e
 shared-tail m e h l = record {
-  some-place = h .some-place; room = h .room; tail-low = omega arith; tail-near = omega (arith, h .tail-near);
-  past = h .past; window = h .window; head-low = h .head-low; apart = h .apart }
+  some-place = h .some-place;
+  room = h .room;
+  tail-low = omega arith;
+  tail-near = omega (arith, h .tail-near);
+  past = h .past;
+  window = h .window;
+  head-low = h .head-low;
+  apart = h .apart;
+}
 
 -- Head has passed the first pair
 
 pub shared-head : (m : Memory) (e : ℕ) → Shared m e → m .head < e → Shared (head-up m) e
 shared-head m e h l = record {
-  some-place = h .some-place; room = h .room; tail-low = h .tail-low; tail-near = h .tail-near;
-  past = h .past; window = h .window; head-low = omega arith;
-  apart = λ u v a b c d. h .apart u v (omega arith) b (omega arith) d }
+  some-place = h .some-place;
+  room = h .room;
+  tail-low = h .tail-low;
+  tail-near = h .tail-near;
+  past = h .past;
+  window = h .window;
+  head-low = omega arith;
+  apart = λ u v a b c d. h .apart u v (omega arith) b (omega arith) d;
+}
 
 pub pair-gone : (m : Memory) → pair (head-up m) (m .head) ≡ None
 pair-gone m = pair-passed (head-up m) (m .head) (omega arith)
 
 pub pair-stays : (m : Memory) (t : ℕ) → (t ≡ m .head → ⊥) → pair (head-up m) t ≡ pair m t
 pair-stays m t d = ⊎-elim
-  (λ low. pair-passed (head-up m) t (omega arith) ∙ sym (pair-passed m t low))
-  (λ k. ap (λ b. cond (b && eqb (cycle (m .places) (word m t)) (cycle (m .places) t)) (Some (index (m .places) (word m t))) None)
+    (λ low. pair-passed (head-up m) t (omega arith) ∙ sym (pair-passed m t low))
+    (λ k. ap (λ b. cond (b && eqb (cycle (m .places) (word m t)) (cycle (m .places) t)) (Some (index (m .places) (word m t))) None)
     (le-leb (m .head + 1) t (omega arith) ∙ sym (le-leb (m .head) t k)))
-  (cases-lt t (m .head))
+    (cases-lt t (m .head))

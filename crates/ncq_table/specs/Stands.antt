@@ -101,7 +101,7 @@ pub record Shared (m : Memory) (e : ℕ) : Type 0 where
   -- the pairs are under the tickets from Head to e, with different indices
   pub head-low : m .head ≤ e
   pub apart : (u v : ℕ) → m .head ≤ u → u < e → m .head ≤ v → v < e →
-    index (m .places) (word m u) ≡ index (m .places) (word m v) → u ≡ v
+      index (m .places) (word m u) ≡ index (m .places) (word m v) → u ≡ v
 
 pub record Sound (q : State) (e : ℕ) : Type 0 where
   pub shared : Shared (q .memory) e

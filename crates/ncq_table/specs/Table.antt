@@ -48,7 +48,7 @@ pub record Memory : Type 0 where
   pub places : ℕ
   -- the ticket of the next take
   pub head : ℕ
-  -- the ticket of the next add, or one below it while an add has not yet moved Tail
+  -- the ticket of the next add; while an add has written its word and not moved Tail, the ticket of that word
   pub tail : ℕ
   -- a word for each slot, and more that are never used: the table has room for 64
   pub words : List ℕ
@@ -78,16 +78,16 @@ Row = Result (Progress × Memory × Stage) Refusal
 -- N2, the word e loaded at ticket t: of t's cycle, N3; of the cycle before, N4; otherwise N1
 abbrev pub n2 : Memory → ℕ → ℕ → ℕ → Row
 n2 m i t e =
-  cond (eqb (cycle (m .places) e) (cycle (m .places) t)) (Ok (Going, m, N3 i t))
-  (cond (eqb (cycle (m .places) e + 1) (cycle (m .places) t)) (Ok (Going, m, N4 i t e))
-  (Ok (Going, m, N1 i)))
+    cond (eqb (cycle (m .places) e) (cycle (m .places) t)) (Ok (Going, m, N3 i t))
+    (cond (eqb (cycle (m .places) e + 1) (cycle (m .places) t)) (Ok (Going, m, N4 i t e))
+    (Ok (Going, m, N1 i)))
 
 -- N7, the word e loaded at ticket h: of h's cycle, N8; of the cycle before, none; otherwise N6
 abbrev pub n7 : Memory → ℕ → ℕ → Row
 n7 m h e =
-  cond (eqb (cycle (m .places) e) (cycle (m .places) h)) (Ok (Going, m, N8 h e))
-  (cond (eqb (cycle (m .places) e + 1) (cycle (m .places) h)) (Ok (Taken None, m, Idle))
-  (Ok (Going, m, N6)))
+    cond (eqb (cycle (m .places) e) (cycle (m .places) h)) (Ok (Going, m, N8 h e))
+    (cond (eqb (cycle (m .places) e + 1) (cycle (m .places) h)) (Ok (Taken None, m, Idle))
+    (Ok (Going, m, N6)))
 
 -- l is the ticket limit
 abbrev pub step : Memory → ℕ → Stage → Row
@@ -96,14 +96,14 @@ step m l (N1 i) = cond (eqb (m .tail) l) (Err AtLimit) (Ok (Going, m, N2 i (m .t
 step m l (N2 i t) = n2 m i t (word m t)
 step m l (N3 i t) = Ok (Going, move-tail m t, N1 i)
 step m l (N4 i t e) = cond (eqb (word m t) e)
-  (Ok (Going, with-word m t (join (m .places) (cycle (m .places) t) i), N5 t))
-  (Ok (Going, m, N1 i))
+    (Ok (Going, with-word m t (join (m .places) (cycle (m .places) t) i), N5 t))
+    (Ok (Going, m, N1 i))
 step m l (N5 t) = Ok (Added, move-tail m t, Idle)
 step m l N6 = cond (eqb (m .head) l) (Err AtLimit) (Ok (Going, m, N7 (m .head)))
 step m l (N7 h) = n7 m h (word m h)
 step m l (N8 h e) = cond (eqb (m .head) h)
-  (Ok (Taken (Some (index (m .places) e)), with-head m (h + 1), Idle))
-  (Ok (Going, m, N6))
+    (Ok (Taken (Some (index (m .places) e)), with-head m (h + 1), Idle))
+    (Ok (Going, m, N6))
 
 -- rings
 
@@ -160,8 +160,8 @@ is-adding i (N8 h e) = false
 -- the word at slot j has index i, and Head has not passed the word's ticket
 abbrev pub is-there : Memory → ℕ → ℕ → Bool
 is-there m i j =
-  eqb (index (m .places) (getD (m .words) j 0)) i &&
-  leb (m .head) (join (m .places) (cycle (m .places) (getD (m .words) j 0)) j)
+    eqb (index (m .places) (getD (m .words) j 0)) i &&
+    leb (m .head) (join (m .places) (cycle (m .places) (getD (m .words) j 0)) j)
 
 -- some number below c passes the test
 abbrev pub any-below : ℕ → (ℕ → Bool) → Bool
@@ -170,22 +170,22 @@ any-below (suc c) test = test c || any-below c test
 
 abbrev pub is-outside : State → ℕ → Bool
 is-outside q i =
-  not (any-below (q .memory .places) (is-there (q .memory) i)) &&
-  not (any-below (q .stations) (λ s. is-adding i (stage q s)))
+    not (any-below (q .memory .places) (is-there (q .memory) i)) &&
+    not (any-below (q .stations) (λ s. is-adding i (stage q s)))
 
 abbrev pub adds : State → ℕ → ℕ → Outcome
 adds q s i =
-  cond (ltb s (q .stations))
+    cond (ltb s (q .stations))
     (cond (is-idle (stage q s))
-      (cond (ltb i (q .memory .places))
-        (cond (is-outside q i) (Ok Going, moved q s (q .memory) (N1 i)) (Err NotOutside, q))
-        (Err NoIndex, q))
-      (Err Busy, q))
+    (cond (ltb i (q .memory .places))
+    (cond (is-outside q i) (Ok Going, moved q s (q .memory) (N1 i)) (Err NotOutside, q))
+    (Err NoIndex, q))
+    (Err Busy, q))
     (Err NoStation, q)
 
 abbrev pub takes : State → ℕ → Outcome
 takes q s =
-  cond (ltb s (q .stations))
+    cond (ltb s (q .stations))
     (cond (is-idle (stage q s)) (Ok Going, moved q s (q .memory) N6) (Err Busy, q))
     (Err NoStation, q)
 
@@ -193,8 +193,11 @@ takes q s =
 
 abbrev pub new-ring : ℕ → ℕ → ℕ → ℕ → List ℕ → State
 new-ring n k l h ws = record {
-  stations = k; limit = l; memory = record { places = n; head = h; tail = n; words = ws };
-  stages = replicate 64 Idle }
+  stations = k;
+  limit = l;
+  memory = record { places = n; head = h; tail = n; words = ws };
+  stages = replicate 64 Idle;
+}
 
 -- the words of a full ring: of cycle 0 and index j at slot j
 unfoldable pub full-words : ℕ → List ℕ

@@ -20,7 +20,7 @@ unfolding swapped
 swapped-miss f n a x e = cond-false (eqb (f x) n) a (f x) (ne-eqb (f x) n e)
 
 pub pigeonhole : (n m : ℕ) (f : ℕ → ℕ) → ((x : ℕ) → x < m → f x < n) →
-  ((x y : ℕ) → x < m → y < m → f x ≡ f y → x ≡ y) → m ≤ n
+    ((x y : ℕ) → x < m → y < m → f x ≡ f y → x ≡ y) → m ≤ n
 pigeonhole zero zero f below inj = omega arith
 pigeonhole zero (suc m) f below inj = absurd (omega (arith, below m (omega arith)))
 pigeonhole (suc n) zero f below inj = omega arith
@@ -28,17 +28,18 @@ pigeonhole (suc n) (suc m) f below inj = let h = pigeonhole n m (swapped f n (f 
   where
     lower : (x : ℕ) → x < m → swapped f n (f m) x < n
     lower x l = ⊎-elim
-      (λ e. ⊎-elim (λ g. absurd (omega (arith, inj x m (omega arith) (omega arith) (e ∙ sym g)))) (λ g. omega (arith, swapped-hit f n (f m) x e, below m (omega arith))) (cases-eq (f m) n))
-      (λ e. omega (arith, swapped-miss f n (f m) x e, below x (omega arith)))
-      (cases-eq (f x) n)
+        (λ e. ⊎-elim (λ g. absurd (omega (arith, inj x m (omega arith) (omega arith) (e ∙ sym g)))) (λ g. omega (arith, swapped-hit f n (f m) x e, below m (omega arith))) (cases-eq (f m) n))
+        (λ e. omega (arith, swapped-miss f n (f m) x e, below x (omega arith)))
+        (cases-eq (f x) n)
+
     apart : (x y : ℕ) → x < m → y < m → swapped f n (f m) x ≡ swapped f n (f m) y → x ≡ y
     apart x y l k e = ⊎-elim
-      (λ p. ⊎-elim
+        (λ p. ⊎-elim
         (λ r. inj x y (omega arith) (omega arith) (p ∙ sym r))
         (λ r. absurd (omega (arith, inj y m (omega arith) (omega arith) (sym (swapped-miss f n (f m) y r) ∙ (sym e ∙ swapped-hit f n (f m) x p)))))
         (cases-eq (f y) n))
-      (λ p. ⊎-elim
+        (λ p. ⊎-elim
         (λ r. absurd (omega (arith, inj x m (omega arith) (omega arith) (sym (swapped-miss f n (f m) x p) ∙ (e ∙ swapped-hit f n (f m) y r)))))
         (λ r. inj x y (omega arith) (omega arith) (sym (swapped-miss f n (f m) x p) ∙ (e ∙ swapped-miss f n (f m) y r)))
         (cases-eq (f y) n))
-      (cases-eq (f x) n)
+        (cases-eq (f x) n)

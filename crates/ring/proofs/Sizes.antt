@@ -23,12 +23,12 @@ power (suc (suc (suc (suc (suc (suc (suc b))))))) h = absurd (omega arith)
 
 sized-true : (n : ℕ) → is-size n ≡ true → Sized n
 sized-true n e =
-  ⊎-elim (λ e. (0, omega arith, eqb-true n 1 e)) (λ e.
-  ⊎-elim (λ e. (1, omega arith, eqb-true n 2 e)) (λ e.
-  ⊎-elim (λ e. (2, omega arith, eqb-true n 4 e)) (λ e.
-  ⊎-elim (λ e. (3, omega arith, eqb-true n 8 e)) (λ e.
-  ⊎-elim (λ e. (4, omega arith, eqb-true n 16 e)) (λ e.
-  ⊎-elim (λ e. (5, omega arith, eqb-true n 32 e)) (λ e. (6, omega arith, eqb-true n 64 e))
+    ⊎-elim (λ e. (0, omega arith, eqb-true n 1 e)) (λ e.
+    ⊎-elim (λ e. (1, omega arith, eqb-true n 2 e)) (λ e.
+    ⊎-elim (λ e. (2, omega arith, eqb-true n 4 e)) (λ e.
+    ⊎-elim (λ e. (3, omega arith, eqb-true n 8 e)) (λ e.
+    ⊎-elim (λ e. (4, omega arith, eqb-true n 16 e)) (λ e.
+    ⊎-elim (λ e. (5, omega arith, eqb-true n 32 e)) (λ e. (6, omega arith, eqb-true n 64 e))
     (or-cases (eqb n 32) _ e)) (or-cases (eqb n 16) _ e)) (or-cases (eqb n 8) _ e)) (or-cases (eqb n 4) _ e)) (or-cases (eqb n 2) _ e)) (or-cases (eqb n 1) _ e)
 
 sized-false : (n : ℕ) → is-size n ≡ false → Sized n → ⊥
@@ -48,12 +48,12 @@ limited-false n l e p = both-ways _ e (and-from _ _ (le-leb (4 * n) l (p .0)) (l
 
 pub checked : (n k l : ℕ) → Checked n k l (make-checked n k l)
 checked n k l =
-  cond-both (is-size n) _ _ (Checked n k l)
+    cond-both (is-size n) _ _ (Checked n k l)
     (λ e. cond-both (leb 1 k && leb k n) _ _ (Checked n k l)
-      (λ f. cond-both (leb (4 * n) l && leb l 999999999) _ _ (Checked n k l)
-        (λ g. (sized-true n e, crewed-true n k f, limited-true n l g))
-        (λ g. limit refl (sized-true n e) (crewed-true n k f) (limited-false n l g)))
-      (λ f. stations refl (sized-true n e) (crewed-false n k f)))
+    (λ f. cond-both (leb (4 * n) l && leb l 999999999) _ _ (Checked n k l)
+    (λ g. (sized-true n e, crewed-true n k f, limited-true n l g))
+    (λ g. limit refl (sized-true n e) (crewed-true n k f) (limited-false n l g)))
+    (λ f. stations refl (sized-true n e) (crewed-false n k f)))
     (λ e. places refl (sized-false n e))
 
 pub sized-low : (n : ℕ) → Sized n → 1 ≤ n

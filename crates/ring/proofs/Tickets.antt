@@ -13,13 +13,13 @@ same-ticket n a b p c = sym (div-add-mod a n) ∙ (ap (λ x. n * x + a % n) c �
 -- and compare as their cycles do
 pub later-cycle : (n a b : ℕ) → a % n ≡ b % n → a < b → a / n < b / n
 later-cycle n a b p l =
-  ⊎-elim (λ c. c) (λ c. absurd (omega (arith, div-add-mod a n, div-add-mod b n, mul-le-mul-left n c))) (cases-lt (a / n) (b / n))
+    ⊎-elim (λ c. c) (λ c. absurd (omega (arith, div-add-mod a n, div-add-mod b n, mul-le-mul-left n c))) (cases-lt (a / n) (b / n))
 
 -- tickets less than n apart have different slots
 pub slots-differ : (n a b : ℕ) → a < b → b < a + n → a % n ≡ b % n → ⊥
 slots-differ n a b l m p =
-  let c : a / n + 1 ≤ b / n = omega (arith, later-cycle n a b p l) in
-  omega (arith, div-add-mod a n, div-add-mod b n, mul-le-mul-left n c)
+    let c : a / n + 1 ≤ b / n = omega (arith, later-cycle n a b p l) in
+    omega (arith, div-add-mod a n, div-add-mod b n, mul-le-mul-left n c)
 
 pub slot-again : (n a : ℕ) → (a + n) % n ≡ a % n
 slot-again n a = add-mod-right a n
@@ -29,8 +29,12 @@ cycle-after n a p = add-div-right a p
 
 -- the ticket of t's slot among the n tickets from b on
 pub in-window : (n b t : ℕ) → 1 ≤ n → (u : ℕ) × (b ≤ u) × (u < b + n) × (u % n ≡ t % n)
-in-window n b t p = (b + (t + (n - b % n)) % n, omega arith, omega (arith, mod-lt (t + (n - b % n)) p),
-    (add-mod-mod b (t + (n - b % n)) n ∙ (ap (λ x. x % n) whole ∙ add-mul-mod-self-left t n (b / n + 1))))
+in-window n b t p = (
+  b + (t + (n - b % n)) % n,
+  omega arith,
+  omega (arith, mod-lt (t + (n - b % n)) p),
+  (add-mod-mod b (t + (n - b % n)) n ∙ (ap (λ x. x % n) whole ∙ add-mul-mod-self-left t n (b / n + 1))),
+)
   where
     whole : b + (t + (n - b % n)) ≡ t + n * (b / n + 1)
     whole = omega (arith, div-add-mod b n, mod-lt b p)

@@ -134,7 +134,7 @@ pub record Leaves (m : Model) (t i : ℕ) (m' : Model) : Type 0 where
 pub data AddGoes (m : Model) (s i f : ℕ) (a : Progress) (m' : Model) : Type 0 where
   stays : a ≡ Going → m' .doing s ≡ adding i f → SamePairs m m' → AddGoes m s i f a m'
   enters : (t : ℕ) → a ≡ Going → m' .doing s ≡ closing t → Enters m t i m' → f ≤ t →
-    (t < m .take-mark → (r : ℕ) × Holds m r t) → AddGoes m s i f a m'
+      (t < m .take-mark → (r : ℕ) × Holds m r t) → AddGoes m s i f a m'
 
 -- a closing station stays so, or ends when its ticket is below the add mark
 pub data CloseGoes (m : Model) (s t : ℕ) (a : Progress) (m' : Model) : Type 0 where
@@ -158,13 +158,13 @@ AllHeld m s = (t i : ℕ) → m .under t ≡ Some i → AddEnded m t → (r : �
 
 pub data SeekGoes (m : Model) (s f : ℕ) (held : Option ℕ) (bare : Bool) (a : Progress) (m' : Model) : Type 0 where
   goes-on : (held' : Option ℕ) (bare' : Bool) → a ≡ Going → m' .doing s ≡ seeking f held' bare' → SamePairs m m' →
-    Ticket m f held held' m' → (bare' ≡ true → (bare ≡ true) ⊎ AllHeld m s) → SeekGoes m s f held bare a m'
+      Ticket m f held held' m' → (bare' ≡ true → (bare ≡ true) ⊎ AllHeld m s) → SeekGoes m s f held bare a m'
   ends-with-none : a ≡ Taken None → m' .doing s ≡ idle → SamePairs m m' →
-    NothingUnder m held → (bare ≡ true) ⊎ AllHeld m s → SeekGoes m s f held bare a m'
+      NothingUnder m held → (bare ≡ true) ⊎ AllHeld m s → SeekGoes m s f held bare a m'
   ends-with-held : (t i : ℕ) → a ≡ Taken (Some i) → m' .doing s ≡ idle → Leaves m t i m' →
-    held ≡ Some t → SeekGoes m s f held bare a m'
+      held ≡ Some t → SeekGoes m s f held bare a m'
   ends-with-unheld : (t i : ℕ) → a ≡ Taken (Some i) → m' .doing s ≡ idle → Leaves m t i m' →
-    held ≡ None → ((r : ℕ) → Holds m r t → ⊥) → f ≤ t → t < m' .take-mark → SeekGoes m s f held bare a m'
+      held ≡ None → ((r : ℕ) → Holds m r t → ⊥) → f ≤ t → t < m' .take-mark → SeekGoes m s f held bare a m'
 
 abbrev pub Goes : Model → ℕ → Doing → Progress → Model → Type 0
 Goes m s idle a m' = ⊥

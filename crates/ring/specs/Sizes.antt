@@ -38,10 +38,10 @@ is-size n = eqb n 1 || (eqb n 2 || (eqb n 4 || (eqb n 8 || (eqb n 16 || (eqb n 3
 
 abbrev pub make-checked : ℕ → ℕ → ℕ → Result (Unit {0}) Refusal
 make-checked n k l = cond (is-size n)
-  (cond (leb 1 k && leb k n)
+    (cond (leb 1 k && leb k n)
     (cond (leb (4 * n) l && leb l 999999999) (Ok tt) (Err Limit))
     (Err Stations))
-  (Err Places)
+    (Err Places)
 
 abbrev pub Checked : ℕ → ℕ → ℕ → Result (Unit {0}) Refusal → Type 0
 Checked n k l (Ok u) = Sized n × Crewed n k × Limited n l

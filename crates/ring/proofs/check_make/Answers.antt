@@ -5,6 +5,7 @@ use Rattle.ring.proofs.check_make.Needs as need
 
 pub returns : need.returns
 returns c = record {
-    outcome = c .ask-sizes .ensures;
-    meaning = subst (Checked (c .args .places) (c .args .stations) (c .args .limit)) (sym (c .ask-sizes .ensures))
-      (checked (c .args .places) (c .args .stations) (c .args .limit)) }
+  outcome = c .ask-sizes .ensures;
+  meaning = subst (Checked (c .args .places) (c .args .stations) (c .args .limit)) (sym (c .ask-sizes .ensures))
+      (checked (c .args .places) (c .args .stations) (c .args .limit));
+}
