@@ -1,9 +1,8 @@
 -- A write within bounds keeps the bounds of all.
-use mathlib.Core.Path.{_≡_, refl, sym, subst}
 use mathlib.Core.List.{List, [], _∷_}
-use mathlib.Core.Logic.{⊎-elim}
 use Prim.Native.Nat.{ℕ, zero, suc, _+_, _<_, _≤_}
 use lib.ListN.{getD, set}
+use lib.Seq.{set-getD}
 use Rattle.ncq_table.specs.declared.Stage.{Stage}
 use Rattle.ncq_table.specs.declared.Stage.the-variants.{Idle}
 use Rattle.ncq.specs.Within.{past-index, past-ticket, LowIndices, LowTickets, LowWords}
@@ -23,3 +22,6 @@ tickets-set l stages s st = all-set (λ v. past-ticket v ≤ l) stages s st Idle
 
 pub words-set : (n l : ℕ) (words : List ℕ) (j w : ℕ) → LowWords n l words → w < n + l → LowWords n l (set words j w)
 words-set n l words j w = all-set (λ v. v < n + l) words j w 0
+
+-- what `search` needs after a write or an unused loan of a station's step
+pub ruleset kept = (set-getD, indices-set, tickets-set, words-set)

@@ -1,0 +1,30 @@
+use borrow.Author.Needs.{needs}
+use Rattle.ncq.proofs.Bounds.{kept}
+use Rattle.ncq.proofs.ncq.Ncq.add_step.Needs as need
+
+pub ghost-self : need.ghost-self
+ghost-self c = search (needs, kept)
+
+pub returns-then-self : need.returns-then-self
+returns-then-self c = search (needs, kept)
+
+pub ghost-self-in-N1 : need.ghost-self-in-N1
+ghost-self-in-N1 c = search (needs, kept)
+
+pub ghost-self-then-cycle : need.ghost-self-then-cycle
+ghost-self-then-cycle c = search (needs, kept)
+
+pub ghost-self-in-N3 : need.ghost-self-in-N3
+ghost-self-in-N3 c = search (needs, kept)
+
+pub ghost-self-then-compare-and-set : need.ghost-self-then-compare-and-set
+ghost-self-then-compare-and-set c = search (needs, kept)
+
+pub ghost-self-else-compare-and-set : need.ghost-self-else-compare-and-set
+ghost-self-else-compare-and-set c = search (needs, kept)
+
+pub ghost-self-in-N5 : need.ghost-self-in-N5
+ghost-self-in-N5 c = search (needs, kept)
+
+pub returns-else-compare-and-set : need.returns-else-compare-and-set
+returns-else-compare-and-set c = search (needs, kept)
