@@ -86,6 +86,19 @@ fn words_of_all(places: usize) -> [usize; 64]
     words
 }
 
+// Whether a call that stands there is still to write the index.
+fn writes_later(stage: Stage, index: usize) -> bool
+    ensures { λ r. ⌜ r ≡ is-adding index stage ⌝ }
+{
+    match stage {
+        Stage::N1 { index: added }
+        | Stage::N2 { index: added, .. }
+        | Stage::N3 { index: added, .. }
+        | Stage::N4 { index: added, .. } => added == index,
+        _ => false,
+    }
+}
+
 impl Ncq {
     // Where the station's call stands, if there is such a station.
     pub fn stage(&self, station: usize) -> Option<Stage>
@@ -158,29 +171,28 @@ impl Ncq {
         ensures { λ r. ⌜ r ≡ any-below (now (self .entry) .places) (is-there (view (now (self .entry)) .memory) index) ⌝ }
     {
         for slot in 0..self.places {
-            let word = self.words[slot];
-            let ticket = self.places * cycle(self.places, word) + slot;
-            if word % self.places == index && self.head <= ticket {
+            if self.is_at(index, slot) {
                 return true;
             }
         }
         false
     }
 
+    // Whether the slot's word has the index, and no take has passed its ticket.
+    fn is_at(&self, index: usize, slot: usize) -> bool
+        requires { ⌜ slot < now self .places ⌝ }
+        ensures { λ r. ⌜ r ≡ is-there (view (now (self .entry)) .memory) index slot ⌝ }
+    {
+        let word = self.words[slot];
+        word % self.places == index && self.head <= self.places * cycle(self.places, word) + slot
+    }
+
     fn is_being_added(&self, index: usize) -> bool
         ensures { λ r. ⌜ r ≡ any-below (now (self .entry) .stations) (λ s. is-adding index (stage-at (view (now (self .entry))) s)) ⌝ }
     {
         for station in 0..self.stations {
-            match self.stages[station] {
-                Stage::N1 { index: added }
-                | Stage::N2 { index: added, .. }
-                | Stage::N3 { index: added, .. }
-                | Stage::N4 { index: added, .. }
-                    if added == index =>
-                {
-                    return true;
-                }
-                _ => {}
+            if writes_later(self.stages[station], index) {
+                return true;
             }
         }
         false
