@@ -4,16 +4,19 @@
 -- adds-now         the station's next step is of an add
 -- takes-now        the station's next step is of a take
 -- swapped          whether a compare-and-set succeeds, and the cell after it
+-- age              the cycle of the word at a ticket's slot, seen from the ticket
 --
 -- Assumes nothing.
 use mathlib.Core.Bool.{Bool, true, false, cond}
-use Prim.Native.Nat.{ℕ}
+use Prim.Native.Nat.{ℕ, _+_}
 use lib.Dec.{eqb, ltb}
 use Rattle.std.specs.declared.result.Result.{Result}
 use Rattle.std.specs.declared.result.Result.the-variants.{Ok, Err}
 use Rattle.ring.specs.declared.Refusal.{Refusal}
 use Rattle.ring.specs.declared.Refusal.the-variants.{NoStation, Busy}
-use Rattle.ncq_table.specs.Table.{State, stage, is-idle}
+use Rattle.ncq_table.specs.Table.{State, cycle, stage, is-idle}
+use Rattle.ncq.specs.declared.Age.{Age}
+use Rattle.ncq.specs.declared.Age.the-variants.{Current, Previous, Other}
 use Rattle.ncq_table.specs.declared.Stage.{Stage}
 use Rattle.ncq_table.specs.declared.Stage.the-variants.{Idle, N1, N2, N3, N4, N5, N6, N7, N8}
 
@@ -44,3 +47,6 @@ takes-now (N8 h w) = true
 
 abbrev pub swapped : ℕ → ℕ → ℕ → Bool × ℕ
 swapped cell old new = cond (eqb cell old) (true, new) (false, cell)
+
+abbrev pub age : ℕ → ℕ → ℕ → Age
+age n w t = cond (eqb (cycle n w) (cycle n t)) Current (cond (eqb (cycle n w + 1) (cycle n t)) Previous Other)

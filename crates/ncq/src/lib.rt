@@ -2,7 +2,7 @@
 
 ghost use mathlib.Core.Path.{_≡_};
 ghost use mathlib.Core.Bool.{true, cond};
-ghost use Prim.Native.Nat.{_/_, _<_, _≤_};
+ghost use Prim.Native.Nat.{_/_, _^_, _<_, _≤_};
 ghost use lib.Dec.{ltb};
 ghost use lib.ListN.{getD};
 ghost use Rattle.std.specs.declared.option.Option.the-variants.{Some, None};
@@ -13,7 +13,7 @@ ghost use Rattle.ncq_table.specs.Table.{stage as stage-at};
 ghost use Rattle.ncq_table.specs.Stands.{Stands};
 ghost use Rattle.ncq.specs.View.{view};
 ghost use Rattle.ncq.specs.Within.{LowWords};
-ghost use Rattle.ncq.specs.Steps.{may-begin, adds-now, takes-now, swapped};
+ghost use Rattle.ncq.specs.Steps.{may-begin, adds-now, takes-now, swapped, age};
 
 mod ncq;
 
@@ -72,6 +72,29 @@ fn cycle(places: usize, number: usize) -> usize
     ensures { λ r. ⌜ r ≡ number / places ⌝ }
 {
     number / places
+}
+
+// When the word at a ticket's slot was written.
+#[derive(Clone, Copy)]
+enum Age {
+    // in the ticket's cycle
+    Current,
+    // in the cycle before it
+    Previous,
+    Other,
+}
+
+fn age_of(places: usize, word: usize, ticket: usize) -> Age
+    requires { ⌜ (1 ≤ places) × (word < 2 ^ 32) ⌝ }
+    ensures { λ r. ⌜ r ≡ age places word ticket ⌝ }
+{
+    if cycle(places, word) == cycle(places, ticket) {
+        Age::Current
+    } else if cycle(places, word) + 1 == cycle(places, ticket) {
+        Age::Previous
+    } else {
+        Age::Other
+    }
 }
 
 // The words of a ring that holds every index: index j of cycle 0 at slot j.
@@ -228,12 +251,10 @@ impl Ncq {
             }
             Stage::N2 { index, ticket } => {
                 let word = self.words[ticket % places];
-                if cycle(places, word) == cycle(places, ticket) {
-                    *stage = Stage::N3 { index, ticket };
-                } else if cycle(places, word) + 1 == cycle(places, ticket) {
-                    *stage = Stage::N4 { index, ticket, word };
-                } else {
-                    *stage = Stage::N1 { index };
+                match age_of(places, word, ticket) {
+                    Age::Current => *stage = Stage::N3 { index, ticket },
+                    Age::Previous => *stage = Stage::N4 { index, ticket, word },
+                    Age::Other => *stage = Stage::N1 { index },
                 }
             }
             Stage::N3 { index, ticket } => {
@@ -274,13 +295,13 @@ impl Ncq {
             }
             Stage::N7 { ticket } => {
                 let word = self.words[ticket % places];
-                if cycle(places, word) == cycle(places, ticket) {
-                    *stage = Stage::N8 { ticket, word };
-                } else if cycle(places, word) + 1 == cycle(places, ticket) {
-                    *stage = Stage::Idle;
-                    return Ok(Progress::Taken(None));
-                } else {
-                    *stage = Stage::N6;
+                match age_of(places, word, ticket) {
+                    Age::Current => *stage = Stage::N8 { ticket, word },
+                    Age::Previous => {
+                        *stage = Stage::Idle;
+                        return Ok(Progress::Taken(None));
+                    }
+                    Age::Other => *stage = Stage::N6,
                 }
             }
             Stage::N8 { ticket, word } => {
