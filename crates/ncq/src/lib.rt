@@ -225,13 +225,11 @@ impl Ncq {
     fn step(&mut self, station: usize) -> Result<Progress, Refusal>
         ensures { λ r. ⌜ (r, view (now (self .exit))) ≡ turns (view (now (self .entry))) station ⌝ }
     {
-        if station >= self.stations {
-            return Err(Refusal::NoStation);
-        }
-        match self.stages[station] {
-            Stage::Idle => Err(Refusal::NoCall),
-            Stage::N6 | Stage::N7 { .. } | Stage::N8 { .. } => self.take_step(station),
-            _ => self.add_step(station),
+        match self.stage(station) {
+            None => Err(Refusal::NoStation),
+            Some(Stage::Idle) => Err(Refusal::NoCall),
+            Some(Stage::N6 | Stage::N7 { .. } | Stage::N8 { .. }) => self.take_step(station),
+            Some(_) => self.add_step(station),
         }
     }
 
@@ -270,7 +268,7 @@ impl Ncq {
                 }
             }
             Stage::N5 { ticket } => {
-                compare_and_set(&mut self.tail, ticket, ticket + 1);
+                compare_and_set(&mut self.tail, ticket, ticket + 1); // or another add has moved it
                 *stage = Stage::Idle;
                 return Ok(Progress::Added);
             }
