@@ -1,0 +1,39 @@
+-- A write within bounds keeps the bounds of all.
+use mathlib.Core.Path.{_≡_, subst}
+use mathlib.Core.List.{List, [], _∷_}
+use Prim.Native.Nat.{ℕ, zero, suc, _+_, _<_, _≤_}
+use native.Mathlib.Nat.{le-trans}
+use lib.ListN.{getD, set}
+use lib.Seq.{set-getD}
+use Rattle.ncq_table.specs.declared.Stage.{Stage}
+use Rattle.ncq_table.specs.declared.Stage.the-variants.{Idle}
+use Rattle.ncq.specs.Within.{past-index, past-ticket, LowIndices, LowTickets, LowWords}
+
+all-set : {X : Type 0} (P : X → Type 0) (xs : List X) (i : ℕ) (x d : X) → ((k : ℕ) → P (getD xs k d)) → P x → (k : ℕ) → P (getD (set xs i x) k d)
+all-set P [] i x d all p k = all k
+all-set P (y ∷ ys) zero x d all p zero = p
+all-set P (y ∷ ys) zero x d all p (suc k) = all (suc k)
+all-set P (y ∷ ys) (suc i) x d all p zero = all zero
+all-set P (y ∷ ys) (suc i) x d all p (suc k) = all-set P ys i x d (λ j. all (suc j)) p k
+
+pub indices-set : (n : ℕ) (stages : List Stage) (s : ℕ) (st : Stage) → LowIndices n stages → past-index st ≤ n → LowIndices n (set stages s st)
+indices-set n stages s st = all-set (λ v. past-index v ≤ n) stages s st Idle
+
+pub tickets-set : (l : ℕ) (stages : List Stage) (s : ℕ) (st : Stage) → LowTickets l stages → past-ticket st ≤ l → LowTickets l (set stages s st)
+tickets-set l stages s st = all-set (λ v. past-ticket v ≤ l) stages s st Idle
+
+pub words-set : (n l : ℕ) (words : List ℕ) (j w : ℕ) → LowWords n l words → w < n + l → LowWords n l (set words j w)
+words-set n l words j w = all-set (λ v. v < n + l) words j w 0
+
+-- a station at step st that goes on to st', with no new index and no new ticket
+
+pub index-kept : (n : ℕ) (stages : List Stage) (s : ℕ) (st st' : Stage) → LowIndices n stages → getD stages s Idle ≡ st → past-index st' ≤ past-index st →
+  LowIndices n (set stages s st')
+index-kept n stages s st st' low e h = indices-set n stages s st' low (le-trans h (subst (λ v. past-index v ≤ n) e (low s)))
+
+pub ticket-kept : (l : ℕ) (stages : List Stage) (s : ℕ) (st st' : Stage) → LowTickets l stages → getD stages s Idle ≡ st → past-ticket st' ≤ past-ticket st →
+  LowTickets l (set stages s st')
+ticket-kept l stages s st st' low e h = tickets-set l stages s st' low (le-trans h (subst (λ v. past-ticket v ≤ l) e (low s)))
+
+-- what `search` needs after a write or an unused loan of a station's step
+pub ruleset kept = (set-getD, indices-set, tickets-set, words-set)

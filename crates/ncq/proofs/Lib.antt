@@ -1,0 +1,4 @@
+pub mod Bounds
+pub mod Scans
+pub mod Words
+pub mod Meaning

@@ -1,0 +1,16 @@
+use mathlib.Core.Path.{sym, subst}
+use Rattle.ring.specs.Meaning.{Kept, TakeBegun}
+use Rattle.ncq_table.specs.Stands.{Stands}
+use Rattle.ncq.specs.View.{view}
+use Rattle.ncq.proofs.Meaning.{table-means}
+use Rattle.ncq.proofs.NcqRing.begin_take.Needs as need
+
+pub returns : need.returns
+returns c =
+  let a = c .args in
+  let q = view (a .self .now) in
+  let e = sym (c .start-take .ensures) in
+  record {
+    outcome = c .start-take .ensures;
+    refused = subst (Kept q) e (table-means .refused-take q (a .station));
+    meaning = λ m h. subst (TakeBegun Stands m (a .station)) e (table-means .means-take q (a .station) m h) }

@@ -1,0 +1,13 @@
+use mathlib.Core.Path.{sym, subst}
+use Rattle.ring.specs.Meaning.{MadeEmpty}
+use Rattle.ncq_table.specs.Stands.{Stands}
+use Rattle.ncq.proofs.Meaning.{table-means}
+use Rattle.ncq.proofs.NcqRing.make_empty.Needs as need
+
+pub returns : need.returns
+returns c =
+  let a = c .args in
+  record {
+    outcome = c .open-empty .ensures;
+    meaning = subst (MadeEmpty Stands (a .places) (a .stations) (a .limit)) (sym (c .open-empty .ensures))
+      (table-means .means-empty (a .places) (a .stations) (a .limit)) }
