@@ -1,4 +1,3 @@
 pub mod Bounds
 pub mod Scans
 pub mod Words
-pub mod Meaning

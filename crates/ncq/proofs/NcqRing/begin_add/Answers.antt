@@ -2,7 +2,7 @@ use mathlib.Core.Path.{sym, subst}
 use Rattle.ring.specs.Meaning.{Kept, AddBegun}
 use Rattle.ncq_table.specs.Stands.{Stands}
 use Rattle.ncq.specs.View.{view}
-use Rattle.ncq.proofs.Meaning.{table-means}
+use Rattle.ncq_table.proofs.Meaning.{table-means}
 use Rattle.ncq.proofs.NcqRing.begin_add.Needs as need
 
 pub returns : need.returns
@@ -12,5 +12,5 @@ returns c =
   let e = sym (c .start-add .ensures) in
   record {
     outcome = c .start-add .ensures;
-    refused = subst (Kept q) e (table-means .refused-add q (a .station) (a .index));
-    meaning = λ m h. subst (AddBegun Stands m (a .station) (a .index)) e (table-means .means-add q (a .station) (a .index) m h) }
+    refused = subst (Kept q) e (table-means .add-kept q (a .station) (a .index));
+    meaning = λ m h. subst (AddBegun Stands m (a .station) (a .index)) e (table-means .add-means q (a .station) (a .index) m h) }

@@ -2,7 +2,7 @@ use mathlib.Core.Path.{sym, subst}
 use Rattle.ring.specs.Meaning.{Kept, TakeBegun}
 use Rattle.ncq_table.specs.Stands.{Stands}
 use Rattle.ncq.specs.View.{view}
-use Rattle.ncq.proofs.Meaning.{table-means}
+use Rattle.ncq_table.proofs.Meaning.{table-means}
 use Rattle.ncq.proofs.NcqRing.begin_take.Needs as need
 
 pub returns : need.returns
@@ -12,5 +12,5 @@ returns c =
   let e = sym (c .start-take .ensures) in
   record {
     outcome = c .start-take .ensures;
-    refused = subst (Kept q) e (table-means .refused-take q (a .station));
-    meaning = λ m h. subst (TakeBegun Stands m (a .station)) e (table-means .means-take q (a .station) m h) }
+    refused = subst (Kept q) e (table-means .take-kept q (a .station));
+    meaning = λ m h. subst (TakeBegun Stands m (a .station)) e (table-means .take-means q (a .station) m h) }

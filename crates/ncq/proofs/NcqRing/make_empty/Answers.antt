@@ -1,7 +1,7 @@
 use mathlib.Core.Path.{sym, subst}
 use Rattle.ring.specs.Meaning.{MadeEmpty}
 use Rattle.ncq_table.specs.Stands.{Stands}
-use Rattle.ncq.proofs.Meaning.{table-means}
+use Rattle.ncq_table.proofs.Meaning.{table-means}
 use Rattle.ncq.proofs.NcqRing.make_empty.Needs as need
 
 pub returns : need.returns
@@ -10,4 +10,4 @@ returns c =
   record {
     outcome = c .open-empty .ensures;
     meaning = subst (MadeEmpty Stands (a .places) (a .stations) (a .limit)) (sym (c .open-empty .ensures))
-      (table-means .means-empty (a .places) (a .stations) (a .limit)) }
+      (table-means .empty-means (a .places) (a .stations) (a .limit)) }

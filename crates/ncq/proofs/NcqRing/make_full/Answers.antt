@@ -1,7 +1,7 @@
 use mathlib.Core.Path.{sym, subst}
 use Rattle.ring.specs.Meaning.{MadeFull}
 use Rattle.ncq_table.specs.Stands.{Stands}
-use Rattle.ncq.proofs.Meaning.{table-means}
+use Rattle.ncq_table.proofs.Meaning.{table-means}
 use Rattle.ncq.proofs.NcqRing.make_full.Needs as need
 
 pub returns : need.returns
@@ -10,4 +10,4 @@ returns c =
   record {
     outcome = c .open-full .ensures;
     meaning = subst (MadeFull Stands (a .places) (a .stations) (a .limit)) (sym (c .open-full .ensures))
-      (table-means .means-full (a .places) (a .stations) (a .limit)) }
+      (table-means .full-means (a .places) (a .stations) (a .limit)) }

@@ -2,7 +2,7 @@ use mathlib.Core.Path.{sym, subst}
 use Rattle.ring.specs.Meaning.{Kept, Turned}
 use Rattle.ncq_table.specs.Stands.{Stands}
 use Rattle.ncq.specs.View.{view}
-use Rattle.ncq.proofs.Meaning.{table-means}
+use Rattle.ncq_table.proofs.Meaning.{table-means}
 use Rattle.ncq.proofs.NcqRing.turn.Needs as need
 
 pub returns : need.returns
@@ -12,5 +12,5 @@ returns c =
   let e = sym (c .step .ensures) in
   record {
     outcome = c .step .ensures;
-    refused = subst (Kept q) e (table-means .refused-turn q (a .station));
-    meaning = λ m h. subst (Turned Stands m (a .station)) e (table-means .means-turn q (a .station) m h) }
+    refused = subst (Kept q) e (table-means .turn-kept q (a .station));
+    meaning = λ m h. subst (Turned Stands m (a .station)) e (table-means .turn-means q (a .station) m h) }

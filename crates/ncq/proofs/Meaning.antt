@@ -1,4 +1,0 @@
-use Rattle.ncq_table.specs.Theorem.{TableHasMeaning}
-
-pub table-means : TableHasMeaning
-table-means = ?
