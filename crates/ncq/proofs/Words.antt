@@ -1,30 +1,19 @@
--- The words and the steps of a new ring.
-use mathlib.Core.Path.{_≡_, refl, sym, subst, _∙_}
+-- The words of a full ring.
+use mathlib.Core.Path.{_≡_, sym, subst, _∙_}
 use mathlib.Core.Bool.{cond}
 use mathlib.Core.List.{List, map}
 use mathlib.Core.Logic.{⊎-elim}
-use Prim.Native.Nat.{ℕ, zero, suc, _+_, _*_, _^_, _<_, _≤_}
+use Prim.Native.Nat.{ℕ, _+_, _*_, _<_, _≤_}
 use native.Mathlib.Nat.{mul-zero, zero-add}
 use native.Mathlib.Omega.{arith}
 use lib.Dec.{ltb}
-use lib.ListN.{length, getD, replicate}
-use lib.Pow.{pow-pos, pow-mono}
+use lib.ListN.{length, getD}
 use Rattle.std.specs.Iters.{counting}
 use Rattle.std.proofs.shelf.Tests.{cases-lt, cond-both, ltb-true, ltb-false}
 use Rattle.std.proofs.shelf.Lists.{getD-past}
 use Rattle.std.proofs.shelf.Counted.{fill-by-all, getD-map-counting, length-map-counting}
-use Rattle.ring.specs.Sizes.{Sized}
 use Rattle.ncq_table.specs.Table.{full-words}
 use Rattle.ncq.specs.Within.{LowWords}
-
-pub sized-low : (n : ℕ) → Sized n → (1 ≤ n) × (n ≤ 64)
-sized-low n h = (omega (arith, pow-pos (h .0)), omega (arith, pow-mono {j = 6} (h .1)))
-
--- past the end too, since the default is the same
-pub getD-same : {X : Type 0} (n k : ℕ) (x : X) → getD (replicate n x) k x ≡ x
-getD-same zero k x = refl
-getD-same (suc n) zero x = refl
-getD-same (suc n) (suc k) x = getD-same n k x
 
 pub full-words-are : (n : ℕ) (words : List ℕ) → length words ≡ 64 → ((k : ℕ) → k < n → getD words k 0 ≡ k) → ((k : ℕ) → n ≤ k → getD words k 0 ≡ 0) →
   words ≡ full-words n

@@ -8,7 +8,6 @@ use native.Mathlib.Omega.{arith}
 use lib.Dec.{eqb, leb, ltb}
 use lib.ListN.{getD}
 use Rattle.std.proofs.shelf.Tests.{cond-both, eqb-true, eq-eqb, leb-true, le-leb, ltb-true, ltb-false, and-parts, and-from, and-cases, both-ways, not-true, not-false, cases-lt, cases-eq}
-use Rattle.std.proofs.shelf.Ways.{decides-below-or}
 use Rattle.std.specs.declared.option.Option.the-variants.{Some, None}
 use Rattle.std.specs.declared.result.Result.the-variants.{Ok, Err}
 use Rattle.ring.specs.Model.{Doing, idle, adding, seeking, Model, Outside}
@@ -20,16 +19,11 @@ use Rattle.ncq_table.specs.Table.{cycle, slot, index, join, Memory, word, Stat
 use Rattle.ncq_table.specs.Stands.{pair, Absent, Fits, writes, Does, Stands}
 use Rattle.ncq_table.proofs.Pairs.{some-value, some-none, pair-there, pair-is}
 use Rattle.ncq_table.proofs.Window.{filled-low, pair-cycled}
+use Rattle.ncq_table.proofs.Scans.{any-found, any-from}
 use Rattle.ncq_table.proofs.Stations.{adding-writes, idle-only}
 use Rattle.ncq_table.proofs.Built.{stage-mine, stage-other, still-one-writer, begins}
 
 -- tests
-
-any-found : (c : ℕ) (test : ℕ → Bool) → any-below c test ≡ true → (j : ℕ) × (j < c) × (test j ≡ true)
-any-found c test = decides-below-or test (λ j. test j ≡ true) (λ c. any-below c test) (λ j. (λ x. x, λ x. x)) refl (λ x. refl) c .0
-
-any-from : (c : ℕ) (test : ℕ → Bool) (j : ℕ) → j < c → test j ≡ true → any-below c test ≡ true
-any-from c test j l t = decides-below-or test (λ j. test j ≡ true) (λ c. any-below c test) (λ j. (λ x. x, λ x. x)) refl (λ x. refl) c .1 (j, l, t)
 
 idle-test : (st : Stage) → is-idle st ≡ true → st ≡ Idle
 idle-test Idle e = refl

@@ -1,4 +1,5 @@
 mod Pairs
+pub mod Scans
 mod Window
 mod Stations
 mod Lone

@@ -9,7 +9,7 @@ use native.Mathlib.Omega.{arith}
 use lib.Dec.{ltb}
 use lib.ListN.{length, getD, replicate}
 use Rattle.std.proofs.shelf.Counted.{length-map-counting, getD-map-counting}
-use Rattle.std.proofs.shelf.Lists.{length-replicate, getD-replicate, getD-past}
+use Rattle.std.proofs.shelf.Lists.{length-replicate, getD-replicate}
 use Rattle.std.proofs.shelf.Tests.{cases-lt, cond-true, lt-ltb}
 use Rattle.std.specs.declared.option.Option.the-variants.{Some, None}
 use Rattle.std.specs.declared.result.Result.{Result}
@@ -18,6 +18,7 @@ use Rattle.ring.specs.declared.Refusal.{Refusal}
 use Rattle.ring.specs.Sizes.{Sized, make-checked, Checked}
 use Rattle.ring.specs.Model.{idle, Model}
 use Rattle.ring.specs.Meaning.{New, NoPairs, AllPairs, Made, MadeEmpty, MadeFull}
+use Rattle.ring.proofs.Entries.{getD-same}
 use Rattle.ring.proofs.Sizes.{checked, sized-low, sized-high}
 use Rattle.ncq_table.specs.declared.Stage.{Stage}
 use Rattle.ncq_table.specs.declared.Stage.the-variants.{Idle}
@@ -28,7 +29,7 @@ use Rattle.ncq_table.proofs.Window.{filled-low}
 use Rattle.ncq_table.proofs.Built.{each-once}
 
 all-idle : (s : ℕ) → getD (replicate 64 Idle) s Idle ≡ Idle
-all-idle s = ⊎-elim (λ l. getD-replicate 64 s Idle Idle l) (λ g. getD-past (replicate 64 Idle) s Idle (omega (arith, length-replicate 64 Idle))) (cases-lt s 64)
+all-idle s = getD-same 64 s Idle
 
 -- a ring of which no call has been made
 module _ (n k l h : ℕ) (ws : List ℕ) (sized : Sized n) (few : k ≤ n) (low : h ≤ n) (shared : Shared (new-ring n k l h ws .memory) n) where

@@ -1,8 +1,9 @@
--- A function with one value changed.
+-- A function with one value changed, and a list with one value throughout.
 use mathlib.Core.Path.{_≡_, refl}
 use mathlib.Core.Bool.{cond}
-use Prim.Native.Nat.{ℕ}
+use Prim.Native.Nat.{ℕ, zero, suc}
 use lib.Dec.{eqb}
+use lib.ListN.{getD, replicate}
 use Rattle.std.proofs.shelf.Tests.{eq-eqb, ne-eqb, cond-true, cond-false}
 
 abbrev pub put : {X : Type 0} → (ℕ → X) → ℕ → X → ℕ → X
@@ -13,3 +14,9 @@ put-same f s x = cond-true (eqb s s) x (f s) (eq-eqb s s refl)
 
 pub put-other : {X : Type 0} (f : ℕ → X) (s : ℕ) (x : X) (r : ℕ) → (r ≡ s → ⊥) → put f s x r ≡ f r
 put-other f s x r e = cond-false (eqb r s) x (f r) (ne-eqb r s e)
+
+-- past the end too, since the default is the same
+pub getD-same : {X : Type 0} (n k : ℕ) (x : X) → getD (replicate n x) k x ≡ x
+getD-same zero k x = refl
+getD-same (suc n) zero x = refl
+getD-same (suc n) (suc k) x = getD-same n k x

@@ -5,7 +5,8 @@ use native.Mathlib.Omega.{arith}
 use borrow.Author.Count.{below-more}
 use lib.ListN.{length, length-set}
 use lib.Seq.{getD-set-same, getD-set-other}
-use Rattle.ncq.proofs.Words.{getD-same, full-words-are}
+use Rattle.ring.proofs.Entries.{getD-same}
+use Rattle.ncq.proofs.Words.{full-words-are}
 use Rattle.ncq.proofs.words_of_all.Needs as need
 
 pub loop-slot-holds : need.loop-slot-holds

@@ -1,12 +1,13 @@
 use mathlib.Core.Path.{sym}
 use Rattle.ncq_table.specs.Table.{is-adding, stage}
 use Rattle.ncq.specs.View.{view}
-use Rattle.ncq.proofs.Scans.{any-at, none-more}
+use Rattle.ncq_table.proofs.Scans.{any-from}
+use Rattle.ncq.proofs.Scans.{none-more}
 use Rattle.ncq.proofs.ncq.Ncq.is_being_added.Needs as need
 
 pub returns-then-writes-later : need.returns-then-writes-later
 returns-then-writes-later c =
-  sym (any-at _ (λ s. is-adding (c .args .index) (stage (view (c .args .self .now)) s))
+  sym (any-from _ (λ s. is-adding (c .args .index) (stage (view (c .args .self .now)) s))
     (c .loop-station .station) (c .loop-station-test .taken) (sym (c .if-writes-later .ensures tt)))
 
 pub loop-station-again : need.loop-station-again

@@ -1,11 +1,12 @@
 use mathlib.Core.Path.{sym}
 use Rattle.ncq_table.specs.Table.{is-there}
 use Rattle.ncq.specs.View.{view}
-use Rattle.ncq.proofs.Scans.{any-at, none-more}
+use Rattle.ncq_table.proofs.Scans.{any-from}
+use Rattle.ncq.proofs.Scans.{none-more}
 use Rattle.ncq.proofs.ncq.Ncq.is_in_pair.Needs as need
 
 pub returns-then-is-at : need.returns-then-is-at
-returns-then-is-at c = sym (any-at _ _ (c .loop-slot .slot) (c .loop-slot-test .taken) (sym (c .if-is-at .ensures tt)))
+returns-then-is-at c = sym (any-from _ _ (c .loop-slot .slot) (c .loop-slot-test .taken) (sym (c .if-is-at .ensures tt)))
 
 pub loop-slot-again : need.loop-slot-again
 loop-slot-again c =

@@ -3,11 +3,13 @@ use Prim.Native.Nat.{_≤_}
 use native.Mathlib.Omega.{arith}
 use Rattle.ncq_table.specs.declared.Stage.the-variants.{Idle}
 use Rattle.ncq.specs.Within.{past-index, past-ticket}
-use Rattle.ncq.proofs.Words.{sized-low, getD-same}
+use Rattle.ring.proofs.Entries.{getD-same}
+use Rattle.ring.proofs.Sizes.{sized-low, sized-high}
 use Rattle.ncq.proofs.ncq.Ncq.new.Needs as need
 
 pub ghost-result : need.ghost-result
 ghost-result c =
-  let low = sized-low (c .args .places) (c .pre .sizes .0) in
-  ((low .0, low .1, omega arith, c .pre .sizes .2 .1), ((omega arith, omega arith), (c .pre .written,
+  let low : 1 ≤ c .args .places = sized-low (c .args .places) (c .pre .sizes .0) in
+  let high : c .args .places ≤ 64 = sized-high (c .args .places) (c .pre .sizes .0) in
+  ((low, high, omega arith, c .pre .sizes .2 .1), ((omega arith, omega arith), (c .pre .written,
     (λ s. simp (getD-same 64 s Idle) (omega arith), (λ s. simp (getD-same 64 s Idle) (omega arith), tt)))))

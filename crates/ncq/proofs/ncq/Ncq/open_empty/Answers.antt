@@ -1,6 +1,7 @@
 use Prim.Native.Nat.{ℕ}
 use native.Mathlib.Omega.{arith}
-use Rattle.ncq.proofs.Words.{sized-low, getD-same}
+use Rattle.ring.proofs.Entries.{getD-same}
+use Rattle.ring.proofs.Sizes.{sized-low}
 use Rattle.ncq.proofs.ncq.Ncq.open_empty.Needs as need
 
 pub new-requires : need.new-requires

@@ -1,7 +1,8 @@
 use mathlib.Core.Path.{sym, subst}
 use native.Mathlib.Omega.{arith}
 use Rattle.ncq.specs.Within.{LowWords}
-use Rattle.ncq.proofs.Words.{sized-low, full-words-low}
+use Rattle.ring.proofs.Sizes.{sized-low}
+use Rattle.ncq.proofs.Words.{full-words-low}
 use Rattle.ncq.proofs.ncq.Ncq.open_full.Needs as need
 
 pub new-requires : need.new-requires
@@ -11,4 +12,4 @@ new-requires c κs =
     sizes = sizes;
     taken = omega arith;
     written = subst (LowWords (c .args .places) (c .args .limit)) (sym (c .words-of-all .ensures))
-      (full-words-low (c .args .places) (c .args .limit) (sized-low (c .args .places) (sizes .0) .0)) }
+      (full-words-low (c .args .places) (c .args .limit) (sized-low (c .args .places) (sizes .0))) }
