@@ -25,15 +25,12 @@ tickets-set l stages s st = all-set (λ v. past-ticket v ≤ l) stages s st Idle
 pub words-set : (n l : ℕ) (words : List ℕ) (j w : ℕ) → LowWords n l words → w < n + l → LowWords n l (set words j w)
 words-set n l words j w = all-set (λ v. v < n + l) words j w 0
 
--- a station at step st that goes on to st', with no new index and no new ticket
-
-pub index-kept : (n : ℕ) (stages : List Stage) (s : ℕ) (st st' : Stage) → LowIndices n stages → getD stages s Idle ≡ st → past-index st' ≤ past-index st →
-  LowIndices n (set stages s st')
-index-kept n stages s st st' low e h = indices-set n stages s st' low (le-trans h (subst (λ v. past-index v ≤ n) e (low s)))
-
-pub ticket-kept : (l : ℕ) (stages : List Stage) (s : ℕ) (st st' : Stage) → LowTickets l stages → getD stages s Idle ≡ st → past-ticket st' ≤ past-ticket st →
-  LowTickets l (set stages s st')
-ticket-kept l stages s st st' low e h = tickets-set l stages s st' low (le-trans h (subst (λ v. past-ticket v ≤ l) e (low s)))
+-- a station at step st goes on to st', with no new index and no new ticket
+pub goes-on : (n l : ℕ) (stages : List Stage) (s : ℕ) (st st' : Stage) → LowIndices n stages → LowTickets l stages → getD stages s Idle ≡ st →
+  past-index st' ≤ past-index st → past-ticket st' ≤ past-ticket st → LowIndices n (set stages s st') × (LowTickets l (set stages s st') × Unit {0})
+goes-on n l stages s st st' indices tickets e hi ht =
+  (indices-set n stages s st' indices (le-trans hi (subst (λ v. past-index v ≤ n) e (indices s))),
+    (tickets-set l stages s st' tickets (le-trans ht (subst (λ v. past-ticket v ≤ l) e (tickets s))), tt))
 
 -- what `search` needs after a write or an unused loan of a station's step
 pub ruleset kept = (set-getD, indices-set, tickets-set, words-set)

@@ -1,7 +1,6 @@
 use native.Mathlib.Omega.{arith}
 use borrow.Author.Needs.{needs}
-use Rattle.ncq_table.specs.declared.Stage.the-variants.{N1, N3}
-use Rattle.ncq.proofs.Bounds.{index-kept, ticket-kept, kept}
+use Rattle.ncq.proofs.Bounds.{goes-on, kept}
 use Rattle.ncq.proofs.ncq.Ncq.add_step.Needs as need
 
 pub ghost-self : need.ghost-self
@@ -16,21 +15,20 @@ ghost-self-in-N1 c = search (needs, kept)
 pub ghost-self-in-Current : need.ghost-self-in-Current
 ghost-self-in-Current c =
   let q = c .args .self .now in
-  let next = N3 (c .in-N2 .index) (c .in-N2 .ticket) in
   (q .sized, (q .counted, (q .«words_low»,
-    (index-kept _ (q .stages) (c .args .station) _ next (q .«indices_low») (c .in-N2 .is) (omega arith),
-    (ticket-kept _ (q .stages) (c .args .station) _ next (q .«tickets_low») (c .in-N2 .is) (omega arith), tt)))))
+    goes-on _ _ (q .stages) (c .args .station) _ _ (q .«indices_low») (q .«tickets_low») (c .in-N2 .is) (omega arith) (omega arith))))
 
 pub ghost-self-in-Previous : need.ghost-self-in-Previous
-ghost-self-in-Previous c = search (needs, kept)
+ghost-self-in-Previous c =
+  let q = c .args .self .now in
+  (q .sized, (q .counted, (q .«words_low»,
+    goes-on _ _ (q .stages) (c .args .station) _ _ (q .«indices_low») (q .«tickets_low») (c .in-N2 .is) (omega arith) (omega arith))))
 
 pub ghost-self-in-Other : need.ghost-self-in-Other
 ghost-self-in-Other c =
   let q = c .args .self .now in
-  let next = N1 (c .in-N2 .index) in
   (q .sized, (q .counted, (q .«words_low»,
-    (index-kept _ (q .stages) (c .args .station) _ next (q .«indices_low») (c .in-N2 .is) (omega arith),
-    (ticket-kept _ (q .stages) (c .args .station) _ next (q .«tickets_low») (c .in-N2 .is) (omega arith), tt)))))
+    goes-on _ _ (q .stages) (c .args .station) _ _ (q .«indices_low») (q .«tickets_low») (c .in-N2 .is) (omega arith) (omega arith))))
 
 pub ghost-self-in-N3 : need.ghost-self-in-N3
 ghost-self-in-N3 c = search (needs, kept)

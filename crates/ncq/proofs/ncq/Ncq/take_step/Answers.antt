@@ -1,8 +1,7 @@
 use Prim.Native.Nat.{_+_, _≤_}
 use native.Mathlib.Omega.{arith}
 use borrow.Author.Needs.{needs}
-use Rattle.ncq_table.specs.declared.Stage.the-variants.{Idle, N6}
-use Rattle.ncq.proofs.Bounds.{indices-set, tickets-set, kept}
+use Rattle.ncq.proofs.Bounds.{goes-on, kept}
 use Rattle.ncq.proofs.ncq.Ncq.take_step.Needs as need
 
 pub ghost-self : need.ghost-self
@@ -17,21 +16,22 @@ ghost-self-in-N6 c =
   search (needs, kept)
 
 pub ghost-self-in-Current : need.ghost-self-in-Current
-ghost-self-in-Current c = search (needs, kept)
+ghost-self-in-Current c =
+  let q = c .args .self .now in
+  (q .sized, (q .counted, (q .«words_low»,
+    goes-on _ _ (q .stages) (c .args .station) _ _ (q .«indices_low») (q .«tickets_low») (c .in-N7 .is) (omega arith) (omega arith))))
 
 pub ghost-self-in-Previous : need.ghost-self-in-Previous
 ghost-self-in-Previous c =
   let q = c .args .self .now in
   (q .sized, (q .counted, (q .«words_low»,
-    (indices-set _ (q .stages) (c .args .station) Idle (q .«indices_low») (omega arith),
-    (tickets-set _ (q .stages) (c .args .station) Idle (q .«tickets_low») (omega arith), tt)))))
+    goes-on _ _ (q .stages) (c .args .station) _ _ (q .«indices_low») (q .«tickets_low») (c .in-N7 .is) (omega arith) (omega arith))))
 
 pub ghost-self-in-Other : need.ghost-self-in-Other
 ghost-self-in-Other c =
   let q = c .args .self .now in
   (q .sized, (q .counted, (q .«words_low»,
-    (indices-set _ (q .stages) (c .args .station) N6 (q .«indices_low») (omega arith),
-    (tickets-set _ (q .stages) (c .args .station) N6 (q .«tickets_low») (omega arith), tt)))))
+    goes-on _ _ (q .stages) (c .args .station) _ _ (q .«indices_low») (q .«tickets_low») (c .in-N7 .is) (omega arith) (omega arith))))
 
 pub ghost-self-then-compare-and-set : need.ghost-self-then-compare-and-set
 ghost-self-then-compare-and-set c = search (needs, kept)
