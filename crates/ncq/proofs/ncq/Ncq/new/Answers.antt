@@ -1,8 +1,5 @@
-use mathlib.Core.Path.{_≡_}
-use Prim.Native.Nat.{_≤_}
 use native.Mathlib.Omega.{arith}
 use Rattle.ncq_table.specs.declared.Stage.the-variants.{Idle}
-use Rattle.ncq.specs.Within.{past-index, past-ticket}
 use Rattle.ncq.proofs.Words.{sized-low, getD-same}
 use Rattle.ncq.proofs.ncq.Ncq.new.Needs as need
 
