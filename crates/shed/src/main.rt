@@ -77,6 +77,7 @@ struct Passed {
     index: usize,
     from: usize,
     to: usize,
+    // of its add and of its take together
     turns: u32,
 }
 
@@ -85,7 +86,9 @@ struct Shed {
     ring: Ncq,
     // how many lines of the table are printed
     lines: u32,
+    // each station's call in progress, or its last
     calls: [Call; STATIONS],
+    // the last add of each index that has ended
     added: [Option<Added>; PLACES],
     passed: Vec<Passed>,
 }
