@@ -1,4 +1,4 @@
-ghost use Prim.Native.Nat.{_<_, _≤_};
+ghost use Prim.Native.Nat.{_≤_};
 ghost use Rattle.ncq.specs.Within.{LowIndices, LowTickets, LowWords};
 
 use ncq_table::Stage;
@@ -16,7 +16,7 @@ pub struct Ncq {
     pub(crate) head: usize,
     // the ticket of the next add, or one below it while an add has not yet moved Tail
     pub(crate) tail: usize,
-    // for each slot the index that was written there last, and in which cycle
+    // for each slot which index was written there last, and in which cycle: places × cycle + index
     pub(crate) words: [usize; 64],
     // for each station the step that its next turn makes
     pub(crate) stages: [Stage; 64],

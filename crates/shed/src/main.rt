@@ -1,7 +1,10 @@
 // Two stations hand indices to each other over one NCQ ring. One of them falls silent in the middle
 // of an add, and the ring goes round without it.
 
+ghost use mathlib.Core.Path.{_≡_};
 ghost use Prim.Native.Nat.{_<_};
+ghost use Rattle.ncq_table.specs.Table.{adds, takes, turns};
+ghost use Rattle.ncq.specs.View.{view};
 
 use ncq::Ncq;
 use ncq::NcqRing;
@@ -39,6 +42,7 @@ impl fmt::Display for Refused as RefusedDisplay {
 impl Error for Refused as RefusedError {}
 
 // What the ring told of a call, with the number of the answer.
+#[derive(Clone, Copy)]
 struct Told(Progress);
 
 impl fmt::Display for Told as ToldDisplay {
@@ -73,6 +77,7 @@ struct Passed {
     index: usize,
     from: usize,
     to: usize,
+    // of its add and of its take together
     turns: u32,
 }
 
@@ -81,7 +86,9 @@ struct Shed {
     ring: Ncq,
     // how many lines of the table are printed
     lines: u32,
+    // each station's call in progress, or its last
     calls: [Call; STATIONS],
+    // the last add of each index that has ended
     added: [Option<Added>; PLACES],
     passed: Vec<Passed>,
 }
@@ -116,11 +123,13 @@ impl Shed {
         requires { ⌜ station < 2 ⌝ }
     {
         let progress = self.begin_add(station, index)?;
-        self.print(rt, station, "begin", progress)
+        let step = format!(rt.alloc(), "begin add {index}")?;
+        self.print(rt, station, &step, progress)
     }
 
     fn begin_add(&mut self, station: usize, index: usize) -> Result<Progress, Refused>
         requires { ⌜ station < 2 ⌝ }
+        ensures { λ _. ⌜ view (now (self .exit) .ring) ≡ adds (view (now (self .entry) .ring)) station index .1 ⌝ }
     {
         let progress = self.ring.begin_add(station, index)?;
         self.calls[station] = Call { adds: Some(index), turns: 0 };
@@ -131,11 +140,12 @@ impl Shed {
         requires { ⌜ station < 2 ⌝ }
     {
         let progress = self.begin_take(station)?;
-        self.print(rt, station, "begin", progress)
+        self.print(rt, station, "begin take", progress)
     }
 
     fn begin_take(&mut self, station: usize) -> Result<Progress, Refused>
         requires { ⌜ station < 2 ⌝ }
+        ensures { λ _. ⌜ view (now (self .exit) .ring) ≡ takes (view (now (self .entry) .ring)) station .1 ⌝ }
     {
         let progress = self.ring.begin_take(station)?;
         self.calls[station] = Call { adds: None, turns: 0 };
@@ -166,6 +176,7 @@ impl Shed {
 
     fn make_turn(&mut self, station: usize) -> Result<Progress, Refused>
         requires { ⌜ station < 2 ⌝ }
+        ensures { λ _. ⌜ view (now (self .exit) .ring) ≡ turns (view (now (self .entry) .ring)) station .1 ⌝ }
     {
         let progress = self.ring.turn(station)?;
         let call = &mut self.calls[station];
@@ -197,7 +208,7 @@ impl Shed {
         self.lines = self.lines.saturating_add(1);
         let line = self.lines;
         let told = Told(progress);
-        println!(rt, "{line:>4}  {station:>7}  {step:<5}  {told}")?;
+        println!(rt, "{line:>4}  {station:>7}  {step:<11}  {told}")?;
         Ok(())
     }
 
@@ -212,7 +223,7 @@ impl Shed {
 
 fn story(rt: &LibcRuntime) -> Result<(), AnyError> {
     let mut shed = Shed::open(rt)?;
-    println!(rt, "line  station  step   answer")?;
+    println!(rt, "line  station  step         answer")?;
     pass(rt, &mut shed, 0, 0, 1)?;
     // Station 0 loads the word for index 1, and falls silent.
     shed.add(rt, 0, 1)?;
