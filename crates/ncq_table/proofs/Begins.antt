@@ -1,22 +1,21 @@
 -- A begin-add and a begin-take do what a ring's may.
 use mathlib.Core.Path.{_≡_, refl, sym, _∙_, ap, subst}
-use mathlib.Core.Bool.{Bool, true, false, cond, not, _&&_, _||_}
+use mathlib.Core.Bool.{true, false, not}
 use mathlib.Core.Logic.{⊎-elim}
-use Prim.Native.Nat.{ℕ, _+_, _*_, _/_, _%_, _<_, _≤_}
+use Prim.Native.Nat.{ℕ, _<_, _≤_}
 use native.Mathlib.Nat.{mod-lt, div-add-mod}
 use native.Mathlib.Omega.{arith}
-use lib.Dec.{eqb, leb, ltb}
+use lib.Dec.{eqb, ltb}
 use lib.ListN.{getD}
 use Rattle.std.proofs.shelf.Tests.{cond-both, eqb-true, eq-eqb, leb-true, le-leb, ltb-true, ltb-false, and-parts, and-from, and-cases, both-ways, not-true, not-false, cases-lt, cases-eq}
 use Rattle.std.specs.declared.option.Option.the-variants.{Some, None}
-use Rattle.std.specs.declared.result.Result.the-variants.{Ok, Err}
 use Rattle.ring.specs.Model.{Doing, idle, adding, seeking, Model, Outside}
 use Rattle.ring.specs.Meaning.{AddRefused, TakeRefused, AddBegun, TakeBegun}
 use Rattle.ring.proofs.Tickets.{join-cycle, join-index}
 use Rattle.ncq_table.specs.declared.Stage.{Stage}
 use Rattle.ncq_table.specs.declared.Stage.the-variants.{Idle, N1, N2, N3, N4, N5, N6, N7, N8}
 use Rattle.ncq_table.specs.Table.{cycle, slot, index, join, Memory, word, State, stage, moved, is-idle, is-adding, is-there, any-below, is-outside, adds, takes}
-use Rattle.ncq_table.specs.Stands.{pair, Absent, Fits, writes, Does, Stands}
+use Rattle.ncq_table.specs.Stands.{Absent, writes, Does, Stands}
 use Rattle.ncq_table.proofs.Pairs.{some-value, some-none, pair-there, pair-is}
 use Rattle.ncq_table.proofs.Window.{filled-low, pair-cycled}
 use Rattle.ncq_table.proofs.Scans.{any-found, any-from}

@@ -1,11 +1,11 @@
 -- Each turn brings a lone call nearer to its end; each lemma is named by the step that was made and the next one.
 use mathlib.Core.Path.{_≡_}
-use Prim.Native.Nat.{ℕ, _+_, _<_, _≤_}
+use Prim.Native.Nat.{ℕ, _<_, _≤_}
 use native.Mathlib.Omega.{arith}
 use Rattle.std.proofs.shelf.Ways.{tells}
 use Rattle.ncq_table.specs.declared.Stage.{Stage}
 use Rattle.ncq_table.specs.declared.Stage.the-variants.{Idle, N1, N2, N3, N4, N5, N6, N7, N8}
-use Rattle.ncq_table.specs.Table.{Memory, word, with-head}
+use Rattle.ncq_table.specs.Table.{Memory, word}
 use Rattle.ncq_table.specs.Stands.{left}
 
 pub left-most : (m : Memory) (e : ℕ) (st : Stage) → left m e st ≤ 9

@@ -3,7 +3,7 @@ use mathlib.Core.Path.{_≡_, refl, sym, _∙_, ap, subst}
 use mathlib.Core.Bool.{cond}
 use mathlib.Core.List.{List}
 use mathlib.Core.Logic.{⊎-elim}
-use Prim.Native.Nat.{ℕ, _+_, _*_, _/_, _%_, _<_, _≤_}
+use Prim.Native.Nat.{ℕ, _+_, _<_, _≤_}
 use native.Mathlib.Nat.{mod-lt, mod-eq-of-lt, div-eq-of-lt, zero-div}
 use native.Mathlib.Omega.{arith}
 use lib.Dec.{ltb}
@@ -17,13 +17,12 @@ use Rattle.std.specs.declared.result.Result.the-variants.{Ok, Err}
 use Rattle.ring.specs.declared.Refusal.{Refusal}
 use Rattle.ring.specs.Sizes.{Sized, make-checked, Checked}
 use Rattle.ring.specs.Model.{idle, Model}
-use Rattle.ring.specs.Meaning.{New, NoPairs, AllPairs, Made, MadeEmpty, MadeFull}
+use Rattle.ring.specs.Meaning.{New, MadeEmpty, MadeFull}
 use Rattle.ring.proofs.Entries.{getD-same}
 use Rattle.ring.proofs.Sizes.{checked, sized-low, sized-high}
-use Rattle.ncq_table.specs.declared.Stage.{Stage}
 use Rattle.ncq_table.specs.declared.Stage.the-variants.{Idle}
-use Rattle.ncq_table.specs.Table.{cycle, slot, index, join, Memory, word, State, stage, new-ring, full-words, made, empty, full}
-use Rattle.ncq_table.specs.Stands.{pair, Fits, writes, Does, left, Shared, Sound, Stands}
+use Rattle.ncq_table.specs.Table.{cycle, slot, index, join, Memory, word, State, new-ring, full-words, made, empty, full}
+use Rattle.ncq_table.specs.Stands.{pair, Fits, writes, Does, left, Shared, Stands}
 use Rattle.ncq_table.proofs.Pairs.{some-none, pair-there, pair-passed, pair-cycle}
 use Rattle.ncq_table.proofs.Window.{filled-low}
 use Rattle.ncq_table.proofs.Built.{each-once}

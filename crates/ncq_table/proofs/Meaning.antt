@@ -1,12 +1,12 @@
 -- The table has the meaning of a ring.
-use mathlib.Core.Path.{_≡_, refl, sym}
-use mathlib.Core.Bool.{Bool, true, false, cond}
+use mathlib.Core.Path.{_≡_, refl}
+use mathlib.Core.Bool.{true, false}
 use Prim.Native.Nat.{ℕ}
 use lib.Dec.{ltb}
 use Rattle.std.proofs.shelf.Tests.{cond-both, both-ways}
 use Rattle.std.specs.declared.result.Result.the-variants.{Ok, Err}
 use Rattle.ring.specs.Meaning.{Kept, HasMeaning}
-use Rattle.ncq_table.specs.Table.{Row, State, Outcome, stage, step, carried, is-idle, is-outside, empty, full, adds, takes, turns}
+use Rattle.ncq_table.specs.Table.{Row, State, stage, step, carried, is-idle, is-outside, empty, full, adds, takes, turns}
 use Rattle.ncq_table.specs.Stands.{Stands}
 use Rattle.ncq_table.proofs.Turns.{means-turn}
 use Rattle.ncq_table.proofs.Begins.{means-add, means-take}

@@ -1,11 +1,10 @@
 -- When a pair is under a ticket, and which.
-use mathlib.Core.Path.{_≡_, refl, sym, _∙_, ap}
-use mathlib.Core.Bool.{Bool, true, false, cond, _&&_}
+use mathlib.Core.Path.{_≡_, refl, sym, _∙_}
+use mathlib.Core.Bool.{Bool, true, false, _&&_}
 use Prim.Native.Nat.{ℕ, _<_, _≤_}
 use native.Mathlib.Omega.{arith}
 use lib.Dec.{eqb, leb}
 use Rattle.std.proofs.shelf.Tests.{leb-true, eqb-true, le-leb, lt-leb, eq-eqb, ne-eqb, and-parts, and-from, and-left, and-right, cond-true, cond-false}
-use Rattle.std.specs.declared.option.Option.{Option}
 use Rattle.std.specs.declared.option.Option.the-variants.{Some, None}
 use Rattle.ncq_table.specs.Table.{cycle, index, Memory, word}
 use Rattle.ncq_table.specs.Stands.{pair}

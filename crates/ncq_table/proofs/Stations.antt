@@ -9,7 +9,7 @@ use lib.Dec.{eqb, leb}
 use Rattle.std.proofs.shelf.Lists.{length-set, getD-set-same, getD-set-other}
 use Rattle.std.proofs.shelf.Tests.{cases-lt, cases-eq, le-leb}
 use Rattle.std.specs.declared.option.Option.the-variants.{Some, None}
-use Rattle.ring.specs.Model.{Doing, idle, adding, closing, seeking}
+use Rattle.ring.specs.Model.{Doing, idle, adding, seeking}
 use Rattle.ring.proofs.Tickets.{same-ticket, slots-differ, join-cycle, join-index}
 use Rattle.ncq_table.specs.declared.Stage.{Stage}
 use Rattle.ncq_table.specs.declared.Stage.the-variants.{Idle, N1, N2, N3, N4, N5, N6, N7, N8}

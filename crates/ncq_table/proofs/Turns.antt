@@ -1,28 +1,27 @@
 -- Each row of the table does what a ring may do.
 use mathlib.Core.Path.{_≡_, refl, sym, _∙_, ap, subst}
-use mathlib.Core.Bool.{Bool, true, false, cond}
+use mathlib.Core.Bool.{false}
 use mathlib.Core.Logic.{⊎-elim, inl, inr}
 use Prim.Native.Nat.{ℕ, _+_, _<_, _≤_}
 use native.Mathlib.Omega.{arith}
 use lib.Dec.{eqb, ltb}
-use Rattle.std.proofs.shelf.Tests.{cond-both, eqb-true, eqb-false, ltb-true, ltb-false, cases-lt, cases-eq}
+use Rattle.std.proofs.shelf.Tests.{cond-both, eqb-true, eqb-false, ltb-true, ltb-false, cases-lt}
 use Rattle.std.specs.declared.option.Option.the-variants.{Some, None}
-use Rattle.std.specs.declared.result.Result.the-variants.{Ok, Err}
+use Rattle.std.specs.declared.result.Result.the-variants.{Ok}
 use Rattle.ring.specs.declared.Progress.{Progress}
 use Rattle.ring.specs.declared.Progress.the-variants.{Going, Added, Taken}
-use Rattle.ring.specs.declared.Refusal.the-variants.{NoStation, NoCall, AtLimit as at-the-limit}
 use Rattle.ring.specs.Model.{Doing, idle, adding, closing, seeking, Model}
-use Rattle.ring.specs.Meaning.{SamePairs, Enters, Leaves, AddGoes, CloseGoes, Ticket, AllHeld, SeekGoes, Goes, AddMark, TakeMark, AtLimit, TurnRefused, Turned}
-use Rattle.ring.proofs.Entries.{put, put-same}
+use Rattle.ring.specs.Meaning.{SamePairs, Leaves, AddGoes, CloseGoes, Ticket, AllHeld, SeekGoes, Goes, AddMark, TakeMark, AtLimit, TurnRefused, Turned}
+use Rattle.ring.proofs.Entries.{put-same}
 use Rattle.ncq_table.specs.declared.Stage.{Stage}
 use Rattle.ncq_table.specs.declared.Stage.the-variants.{Idle, N1, N2, N3, N4, N5, N6, N7, N8}
-use Rattle.ncq_table.specs.Table.{cycle, index, join, Memory, word, move-tail, with-head, with-word, n2, n7, step, State, stage, moved, carried, turns}
-use Rattle.ncq_table.specs.Stands.{pair, Fits, writes, Does, left, Shared, Stands}
+use Rattle.ncq_table.specs.Table.{cycle, index, join, Memory, word, move-tail, with-head, with-word, step, State, stage, moved, carried, turns}
+use Rattle.ncq_table.specs.Stands.{Fits, writes, Does, left, Shared, Stands}
 use Rattle.ncq_table.proofs.Pairs.{some-none, pair-there, pair-is}
 use Rattle.ncq_table.proofs.Window.{filled-low, before-end, at-end, pair-cycled}
 use Rattle.ncq_table.proofs.Stations.{none-holds, tail-up, fits-tail, shared-tail, head-up, fits-head, shared-head, pair-gone, pair-stays, word-in, fits-word, shared-word, pair-before, pair-after, pair-rest}
 use Rattle.ncq_table.proofs.Lone.{n1-n2, n2-n3, n2-n4, n2-n1, n3-n1, n3-moved, n4-n1, n4-n5, n6-n7, n7-n8, n7-n6, n7-ends, n8-n6, n8-ends}
-use Rattle.ncq_table.proofs.Built.{then, Row-shows, row}
+use Rattle.ncq_table.proofs.Built.{then, row}
 
 module _ (q : State) (m : Model) (h : Stands q m) (s : ℕ) (here : s < q .stations) where
   abbrev mem : Memory

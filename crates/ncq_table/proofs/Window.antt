@@ -1,11 +1,11 @@
 -- What follows from the shared memory's facts alone.
-use mathlib.Core.Path.{_≡_, refl, sym, _∙_, ap}
+use mathlib.Core.Path.{_≡_, sym, _∙_, ap}
 use mathlib.Core.Logic.{⊎-elim}
-use Prim.Native.Nat.{ℕ, suc, _+_, _-_, _<_, _≤_, _%_}
+use Prim.Native.Nat.{ℕ, suc, _+_, _-_, _<_, _≤_}
 use native.Mathlib.Nat.{mod-lt}
 use native.Mathlib.Omega.{arith}
 use lib.ListN.{getD}
-use Rattle.std.proofs.shelf.Tests.{cases-lt, cases-eq}
+use Rattle.std.proofs.shelf.Tests.{cases-lt}
 use Rattle.ring.proofs.Tickets.{same-ticket, later-cycle, slots-differ, slot-again, cycle-after, in-window}
 use Rattle.ring.proofs.Pigeonhole.{pigeonhole}
 use Rattle.ring.proofs.Entries.{put, put-same, put-other}

@@ -1,15 +1,13 @@
 -- What the answer to the three questions about sizes says.
-use mathlib.Core.Path.{_≡_, refl, sym, _∙_, ap}
-use mathlib.Core.Bool.{Bool, true, false, cond, _||_, _&&_}
-use mathlib.Core.Logic.{_⊎_, ⊎-elim}
+use mathlib.Core.Path.{_≡_, refl, _∙_, ap}
+use mathlib.Core.Bool.{true, false, _&&_}
+use mathlib.Core.Logic.{⊎-elim}
 use Prim.Native.Nat.{ℕ, zero, suc, _*_, _^_, _≤_}
 use native.Mathlib.Omega.{arith}
 use lib.Dec.{eqb, leb}
 use Rattle.std.proofs.shelf.Tests.{cond-both, eqb-true, leb-true, le-leb, or-cases, and-parts, and-from, both-ways}
 use lib.Pow.{pow-pos, pow-mono}
-use Rattle.std.specs.declared.result.Result.the-variants.{Ok, Err}
-use Rattle.ring.specs.declared.Refusal.the-variants.{Places, Stations, Limit}
-use Rattle.ring.specs.Sizes.{Sized, Crewed, Limited, MakeRefused, places, stations, limit, is-size, make-checked, Checked}
+use Rattle.ring.specs.Sizes.{Sized, Crewed, Limited, places, stations, limit, is-size, make-checked, Checked}
 
 power : (b : ℕ) → b ≤ 6 → is-size (2 ^ b) ≡ true
 power zero h = refl

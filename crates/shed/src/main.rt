@@ -187,6 +187,7 @@ impl Shed {
     // Keeps what the end of a call says of an index.
     fn note(&mut self, station: usize, progress: Progress) -> Result<(), AllocError>
         requires { ⌜ station < 2 ⌝ }
+        ensures { λ _. ⌜ now (self .exit) .ring ≡ now (self .entry) .ring ⌝ }
     {
         let Call { adds, turns } = self.calls[station];
         match (progress, adds) {
@@ -204,7 +205,9 @@ impl Shed {
         Ok(())
     }
 
-    fn print(&mut self, rt: &LibcRuntime, station: usize, step: &str, progress: Progress) -> Result<(), AnyError> {
+    fn print(&mut self, rt: &LibcRuntime, station: usize, step: &str, progress: Progress) -> Result<(), AnyError>
+        ensures { λ _. ⌜ now (self .exit) .ring ≡ now (self .entry) .ring ⌝ }
+    {
         self.lines = self.lines.saturating_add(1);
         let line = self.lines;
         let told = Told(progress);
@@ -225,14 +228,13 @@ fn story(rt: &LibcRuntime) -> Result<(), AnyError> {
     let mut shed = Shed::open(rt)?;
     println!(rt, "line  station  step         answer")?;
     pass(rt, &mut shed, 0, 0, 1)?;
-    // Station 0 loads the word for index 1, and falls silent.
     shed.add(rt, 0, 1)?;
     shed.turn(rt, 0)?;
     shed.turn(rt, 0)?;
-    // Both slots are written meanwhile.
+    println!(rt, "      station 0 has loaded a word and falls silent")?;
     pass(rt, &mut shed, 1, 0, 1)?;
     pass(rt, &mut shed, 1, 0, 1)?;
-    // Station 0 finds its word changed, and starts over.
+    println!(rt, "      the ring has gone round; station 0 comes back, and its word is no longer there")?;
     shed.finish(rt, 0)?;
     shed.take(rt, 1)?;
     shed.finish(rt, 1)?;

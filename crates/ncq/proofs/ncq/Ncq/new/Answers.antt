@@ -1,8 +1,6 @@
-use mathlib.Core.Path.{_≡_}
 use Prim.Native.Nat.{_≤_}
 use native.Mathlib.Omega.{arith}
 use Rattle.ncq_table.specs.declared.Stage.the-variants.{Idle}
-use Rattle.ncq.specs.Within.{past-index, past-ticket}
 use Rattle.ring.proofs.Entries.{getD-same}
 use Rattle.ring.proofs.Sizes.{sized-low, sized-high}
 use Rattle.ncq.proofs.ncq.Ncq.new.Needs as need
