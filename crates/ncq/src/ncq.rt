@@ -14,7 +14,7 @@ pub struct Ncq {
     pub(crate) limit: usize,
     // the ticket of the next take
     pub(crate) head: usize,
-    // the ticket of the next add, or one below it while an add has not yet moved Tail
+    // the ticket of the next add; while an add has written its word and not moved Tail, the ticket of that word
     pub(crate) tail: usize,
     // for each slot which index was written there last, and in which cycle: places × cycle + index
     pub(crate) words: [usize; 64],

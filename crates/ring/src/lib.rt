@@ -1,7 +1,9 @@
 // What every ring of indices is: its answers, its refusals and its five calls.
 //
-// A ring keeps the indices 0 to n-1 in order for k stations. Its calls are carried out one memory
-// operation a turn. What a ring stands for is said in specs/Model.antt and specs/Meaning.antt.
+// A ring keeps the indices 0 to n-1 in order for k stations. A station is whoever makes calls: it has
+// a number below k, and at most one call in progress. A call, to add an index or to take one, is
+// begun and then carried out by turns. A turn makes one memory operation of its station's call.
+// What a ring stands for is said in specs/Model.antt and specs/Meaning.antt.
 
 ghost use mathlib.Core.Path.{_≡_};
 ghost use Prim.Native.Nat.{ℕ};
@@ -37,7 +39,7 @@ pub enum Refusal {
     Stations,
     // 3: the ticket limit is under four times the places, or over 999,999,999
     Limit,
-    // 4: the rack has not a record for each place and each station
+    // 4: the rack, the caller's memory of records, has not exactly one for each place and each station
     Rack,
     // 5: there is no such station
     NoStation,
