@@ -12,40 +12,21 @@ pub enum Stage {
     // no call in progress
     Idle,
     // load Tail
-    N1 {
-        index: usize,
-    },
+    N1 { index: usize },
     // load the word at the ticket's slot
-    N2 {
-        index: usize,
-        ticket: usize,
-    },
+    N2 { index: usize, ticket: usize },
     // compare-and-set Tail: another add has filled the slot and not yet moved Tail
-    N3 {
-        index: usize,
-        ticket: usize,
-    },
+    N3 { index: usize, ticket: usize },
     // compare-and-set the word that N2 loaded
-    N4 {
-        index: usize,
-        ticket: usize,
-        word: usize,
-    },
+    N4 { index: usize, ticket: usize, word: usize },
     // compare-and-set Tail past the ticket whose word was written
-    N5 {
-        ticket: usize,
-    },
+    N5 { ticket: usize },
     // load Head
     N6,
     // load the word at the ticket's slot
-    N7 {
-        ticket: usize,
-    },
+    N7 { ticket: usize },
     // compare-and-set Head past the ticket whose word N7 loaded
-    N8 {
-        ticket: usize,
-        word: usize,
-    },
+    N8 { ticket: usize, word: usize },
 }
 
 // Whatever calls come, in whatever order, the table does what a ring may do.

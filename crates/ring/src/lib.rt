@@ -142,18 +142,13 @@ fn ask_sizes(places: usize, stations: usize, limit: usize) -> Result<(), Refusal
 pub trait Ring: Sized + Drop {
     // the ring's own state, as a type of the specification, and how a ring shows it
     ghost state: { Type 0 };
-
     ghost view: { Self → state };
 
     // the exact outcome of each call: of the two makes, of begin-add and begin-take, and of a turn
     ghost empty: { ℕ → ℕ → ℕ → Result state Refusal };
-
     ghost full: { ℕ → ℕ → ℕ → Result state Refusal };
-
     ghost adds: { state → ℕ → ℕ → Result Progress Refusal × state };
-
     ghost takes: { state → ℕ → Result Progress Refusal × state };
-
     ghost turns: { state → ℕ → Result Progress Refusal × state };
 
     // the models that a state stands for
