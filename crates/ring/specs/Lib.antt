@@ -2,3 +2,4 @@ pub mod Numbers
 pub mod Sizes
 pub mod Model
 pub mod Meaning
+pub mod Runs

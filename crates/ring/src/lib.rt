@@ -14,6 +14,7 @@ ghost use Rattle.ring.specs.declared.Refusal.{Refusal};
 ghost use Rattle.ring.specs.declared.Progress.{Progress};
 ghost use Rattle.ring.specs.Model.{Model};
 ghost use Rattle.ring.specs.Meaning.{viewed, Kept, MadeEmpty, MadeFull, AddBegun, TakeBegun, Turned, HasMeaning};
+ghost use Rattle.ring.specs.Runs.{RunsStand};
 
 // What a caller is told of an accepted call.
 #[derive(Clone, Copy)]
@@ -184,4 +185,11 @@ pub trait Ring: Sized + Drop {
         ensures outcome { λ r. ⌜ (r, view (now (self .exit))) ≡ turns (view (now (self .entry))) station ⌝ }
         ensures refused { λ r. ⌜ Kept (view (now (self .entry))) (r, view (now (self .exit))) ⌝ }
         ensures meaning { λ r. ⌜ ((m : Model) → stands (view (now (self .entry))) m → Turned stands m station (r, view (now (self .exit)))) ⌝ };
+}
+
+// Of every ring: whatever calls come after it has been made, in whatever order and with any of them
+// refused, it stands for a model, so that the meaning of each call is never empty.
+pub fn runs_stand<R: Ring>()
+    ensures { λ _. ⌜ RunsStand (R·Ring .state) (R·Ring .stands) (R·Ring .empty) (R·Ring .full) (R·Ring .adds) (R·Ring .takes) (R·Ring .turns) ⌝ }
+{
 }
