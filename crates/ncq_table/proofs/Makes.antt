@@ -23,7 +23,8 @@ use Rattle.ring.proofs.Sizes.{checked, sized-low, sized-high}
 use Rattle.ncq_table.specs.declared.Stage.the-variants.{Idle}
 use Rattle.ncq_table.specs.Table.{cycle, slot, index, join, Memory, word, State, new-ring, full-words, made, empty, full}
 use Rattle.ncq_table.specs.Stands.{pair, Fits, writes, Does, left, Shared, Stands}
-use Rattle.ncq_table.proofs.Pairs.{some-none, pair-there, pair-passed, pair-cycle}
+use Rattle.ring.proofs.Options.{some-none}
+use Rattle.ncq_table.proofs.Pairs.{pair-there, pair-passed, pair-cycle}
 use Rattle.ncq_table.proofs.Window.{filled-low}
 use Rattle.ncq_table.proofs.Built.{each-once}
 

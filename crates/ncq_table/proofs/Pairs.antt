@@ -2,18 +2,12 @@
 use mathlib.Core.Path.{_≡_, refl, sym, _∙_}
 use mathlib.Core.Bool.{Bool, true, false, _&&_}
 use Prim.Native.Nat.{ℕ, _<_, _≤_}
-use native.Mathlib.Omega.{arith}
 use lib.Dec.{eqb, leb}
 use Rattle.std.proofs.shelf.Tests.{leb-true, eqb-true, le-leb, lt-leb, eq-eqb, ne-eqb, and-parts, and-from, and-left, and-right, cond-true, cond-false}
 use Rattle.std.specs.declared.option.Option.the-variants.{Some, None}
+use Rattle.ring.proofs.Options.{some-value, some-none}
 use Rattle.ncq_table.specs.Table.{cycle, index, Memory, word}
 use Rattle.ncq_table.specs.Stands.{pair}
-
-pub some-value : {X : Type 0} (x y : X) → Some x ≡ Some y → x ≡ y
-some-value x y e = cc
-
-pub some-none : {X : Type 0} (x : X) → Some x ≡ None → ⊥
-some-none x e = let z : _≡_ {A = ℕ} 0 1 = cc in omega arith
 
 module _ (m : Memory) (t : ℕ) where
   abbrev here : Bool

@@ -1,27 +1,29 @@
 -- Each row of the table does what a ring may do.
 use mathlib.Core.Path.{_≡_, refl, sym, _∙_, ap, subst}
 use mathlib.Core.Bool.{false}
-use mathlib.Core.Logic.{⊎-elim, inl, inr}
+use mathlib.Core.Logic.{inl, inr}
 use Prim.Native.Nat.{ℕ, _+_, _<_, _≤_}
 use native.Mathlib.Omega.{arith}
 use lib.Dec.{eqb, ltb}
-use Rattle.std.proofs.shelf.Tests.{cond-both, eqb-true, eqb-false, ltb-true, ltb-false, cases-lt}
+use Rattle.std.proofs.shelf.Tests.{cond-both, eqb-true, eqb-false, ltb-true, ltb-false}
 use Rattle.std.specs.declared.option.Option.the-variants.{Some, None}
 use Rattle.std.specs.declared.result.Result.the-variants.{Ok}
 use Rattle.ring.specs.declared.Progress.{Progress}
 use Rattle.ring.specs.declared.Progress.the-variants.{Going, Added, Taken}
 use Rattle.ring.specs.Model.{Doing, idle, adding, closing, seeking, Model}
 use Rattle.ring.specs.Meaning.{SamePairs, Leaves, AddGoes, CloseGoes, Ticket, AllHeld, SeekGoes, Goes, AddMark, TakeMark, AtLimit, TurnRefused, Turned}
-use Rattle.ring.proofs.Entries.{put-same}
+use Rattle.ring.proofs.Entries.{put-same, put-other}
+use Rattle.ring.proofs.Leaving.{left-outside}
 use Rattle.ncq_table.specs.declared.Stage.{Stage}
 use Rattle.ncq_table.specs.declared.Stage.the-variants.{Idle, N1, N2, N3, N4, N5, N6, N7, N8}
 use Rattle.ncq_table.specs.Table.{cycle, index, join, Memory, word, move-tail, with-head, with-word, step, State, stage, moved, carried, turns}
 use Rattle.ncq_table.specs.Stands.{Fits, writes, Does, left, Shared, Stands}
-use Rattle.ncq_table.proofs.Pairs.{some-none, pair-there, pair-is}
-use Rattle.ncq_table.proofs.Window.{filled-low, before-end, at-end, pair-cycled}
+use Rattle.ring.proofs.Options.{some-none}
+use Rattle.ncq_table.proofs.Pairs.{pair-there, pair-is}
+use Rattle.ncq_table.proofs.Window.{filled-low, before-end, near-slot, few}
 use Rattle.ncq_table.proofs.Stations.{none-holds, tail-up, fits-tail, shared-tail, head-up, fits-head, shared-head, pair-gone, pair-stays, word-in, fits-word, shared-word, pair-before, pair-after, pair-rest}
 use Rattle.ncq_table.proofs.Lone.{n1-n2, n2-n3, n2-n4, n2-n1, n3-n1, n3-moved, n4-n1, n4-n5, n6-n7, n7-n8, n7-n6, n7-ends, n8-n6, n8-ends}
-use Rattle.ncq_table.proofs.Built.{then, row}
+use Rattle.ncq_table.proofs.Built.{each-once, then, row}
 
 module _ (q : State) (m : Model) (h : Stands q m) (s : ℕ) (here : s < q .stations) where
   abbrev mem : Memory
@@ -115,23 +117,13 @@ module _ (q : State) (m : Model) (h : Stands q m) (s : ℕ) (here : s < q .stati
       p : Fits mem e (N1 i)
       p = fits-at (N1 i) at
 
-  -- the slot that Tail stands at is of its cycle or of the one before
-  tail-slot : (cycle (mem .places) (word mem (mem .tail)) ≡ cycle (mem .places) (mem .tail) → ⊥) →
-      (cycle (mem .places) (word mem (mem .tail)) + 1 ≡ cycle (mem .places) (mem .tail) → ⊥) → ⊥
-  tail-slot x y = ⊎-elim
-      (λ l. x (sh .window (mem .tail) l (omega (arith, sh .tail-near, sh .some-place))))
-      (λ g. let c : e ≡ mem .tail = omega (arith, sh .tail-low) in y (subst (λ t. cycle (mem .places) (word mem t) + 1 ≡ cycle (mem .places) t) c (at-end mem e sh)))
-      (cases-lt (mem .tail) e)
-
   turn-n2 : (i t : ℕ) → stage q s ≡ N2 i t → Turned Stands m s (carried q s (step mem (q .limit) (N2 i t)))
   turn-n2 i t at = cond-both (eqb (cycle (mem .places) w) (cycle (mem .places) t)) _ _ (λ r. Turned Stands m s (carried q s r))
       (λ c. let low : t < e = filled-low mem e sh t (eqb-true _ _ c) in
       quiet-add i (d .0) (d .2) (N2 i t) (N3 i t) at refl refl (p .0, p .1, low) (d .0, d .1, refl) (n2-n3 mem e i t low))
       (λ c. cond-both (eqb (cycle (mem .places) w + 1) (cycle (mem .places) t)) _ _ (λ r. Turned Stands m s (carried q s r))
       (λ c'. quiet-add i (d .0) (d .2) (N2 i t) (N4 i t w) at refl refl (p .0, p .1, p .2, eqb-true _ _ c') (d .0, d .1, refl) (n2-n4 mem e i t))
-      (λ c'. let late : t ≡ mem .tail → ⊥ = λ z. tail-slot
-      (λ y. eqb-false _ _ c (subst (λ u. cycle (mem .places) (word mem u) ≡ cycle (mem .places) u) (sym z) y))
-      (λ y. eqb-false _ _ c' (subst (λ u. cycle (mem .places) (word mem u) + 1 ≡ cycle (mem .places) u) (sym z) y)) in
+      (λ c'. let late : t ≡ mem .tail → ⊥ = λ z. near-slot mem e sh t (omega (arith, sh .tail-low)) (omega (arith, sh .tail-near, sh .some-place)) (eqb-false _ _ c) (eqb-false _ _ c') in
       quiet-add i (d .0) (d .2) (N2 i t) (N1 i) at refl refl (p .0, p .1) (d .0, omega (arith, d .1, p .2), refl) (n2-n1 mem e i t late)))
     where
       d : Does mem (N2 i t) (m .doing s)
@@ -225,14 +217,6 @@ module _ (q : State) (m : Model) (h : Stands q m) (s : ℕ) (here : s < q .stati
       d : Does mem N6 (m .doing s)
       d = does-at N6 at
 
-  -- the slot that Head stands at is of its cycle or, with no pair at all, of the one before
-  head-slot : (cycle (mem .places) (word mem (mem .head)) ≡ cycle (mem .places) (mem .head) → ⊥) →
-      (cycle (mem .places) (word mem (mem .head)) + 1 ≡ cycle (mem .places) (mem .head) → ⊥) → ⊥
-  head-slot x y = ⊎-elim
-      (λ l. x (pair-cycled mem e sh (mem .head) (omega arith) l))
-      (λ g. let c : e ≡ mem .head = omega (arith, sh .head-low) in y (subst (λ t. cycle (mem .places) (word mem t) + 1 ≡ cycle (mem .places) t) c (at-end mem e sh)))
-      (cases-lt (mem .head) e)
-
   turn-n7 : (t : ℕ) → stage q s ≡ N7 t → Turned Stands m s (carried q s (step mem (q .limit) (N7 t)))
   turn-n7 t at = cond-both (eqb (cycle (mem .places) w) (cycle (mem .places) t)) _ _ (λ r. Turned Stands m s (carried q s r))
       (λ c. quiet-take (d .0) (d .2) (N7 t) (N8 t w) at (λ i v. v) (p, eqb-true _ _ c, λ z. refl) (d .0, d .1, refl) (n7-n8 mem e 0 t w))
@@ -241,9 +225,7 @@ module _ (q : State) (m : Model) (h : Stands q m) (s : ℕ) (here : s < q .stati
       quiet (Taken None) Idle idle tt refl no-index (sooner-at (N7 t) 0 at (n7-ends mem e 0 t))
       (subst (λ x. Goes m s x (Taken None) (then q m h s here (Taken None) mem Idle idle)) (sym (d .2))
       (SeekGoes.ends-with-none refl (mine (Taken None) mem Idle idle) (λ u. sym (h .pairs u)) (λ u z. absurd (some-none u (sym z))) (inr (bare last)))))
-      (λ c'. let late : t ≡ mem .head → ⊥ = λ z. head-slot
-      (λ y. eqb-false _ _ c (subst (λ u. cycle (mem .places) (word mem u) ≡ cycle (mem .places) u) (sym z) y))
-      (λ y. eqb-false _ _ c' (subst (λ u. cycle (mem .places) (word mem u) + 1 ≡ cycle (mem .places) u) (sym z) y)) in
+      (λ c'. let late : t ≡ mem .head → ⊥ = λ z. near-slot mem e sh t (omega (arith, sh .head-low)) (omega (arith, few mem e sh)) (eqb-false _ _ c) (eqb-false _ _ c') in
       quiet-take (d .0) (d .2) (N7 t) N6 at (λ i v. v) tt (d .0, omega (arith, d .1, p), refl) (n7-n6 mem e 0 t late)))
     where
       d : Does mem (N7 t) (m .doing s)
@@ -280,10 +262,16 @@ module _ (q : State) (m : Model) (h : Stands q m) (s : ℕ) (here : s < q .stati
       taken first =
           let same : word mem (mem .head) ≡ w = sym (p .2 first ∙ ap (word mem) first) in
           let cycled : cycle (mem .places) (word mem (mem .head)) ≡ cycle (mem .places) (mem .head) = ap (cycle (mem .places)) same ∙ (p .1 ∙ ap (cycle (mem .places)) first) in
-          let leaves : Leaves m (mem .head) (index (mem .places) w) (then q m h s here a (head-up mem) Idle idle) = record {
-            before = h .pairs (mem .head) ∙ (pair-there mem (mem .head) (omega arith) cycled ∙ ap (λ x. Some (index (mem .places) x)) same);
+          let i : ℕ = index (mem .places) w in
+          let m' : Model = then q m h s here a (head-up mem) Idle idle in
+          let before : m .under (mem .head) ≡ Some i =
+            h .pairs (mem .head) ∙ (pair-there mem (mem .head) (omega arith) cycled ∙ ap (λ x. Some (index (mem .places) x)) same) in
+          let rest : (u : ℕ) → (u ≡ mem .head → ⊥) → m' .under u ≡ m .under u = λ u o. pair-stays mem u o ∙ sym (h .pairs u) in
+          let leaves : Leaves m (mem .head) i m' = record {
+            before = before;
             after = pair-gone mem;
-            rest = λ u o. pair-stays mem u o ∙ sym (h .pairs u);
+            rest = rest;
+            outside = left-outside m m' s (mem .head) i (each-once q m h) before (pair-gone mem) rest (mine a (head-up mem) Idle idle) (put-other (m .doing) s idle);
           } in
           row q m h s here a (head-up mem) Idle idle e (record {
             places-stay = refl;

@@ -1,5 +1,5 @@
 -- What follows from the shared memory's facts alone.
-use mathlib.Core.Path.{_≡_, sym, _∙_, ap}
+use mathlib.Core.Path.{_≡_, sym, _∙_, ap, subst}
 use mathlib.Core.Logic.{⊎-elim}
 use Prim.Native.Nat.{ℕ, suc, _+_, _-_, _<_, _≤_}
 use native.Mathlib.Nat.{mod-lt}
@@ -49,6 +49,13 @@ module _ (m : Memory) (e : ℕ) (h : Shared m e) where
       (λ g. let q : e ≡ seat e .0 + n = omega (arith, seat e .2) in
       omega (arith, seat e .4, ap (cycle n) q, cycle-after n (seat e .0) (h .some-place)))
       (cases-lt e (seat e .0 + n))
+
+  -- the slots of the last n tickets and of the next are of their ticket's cycle or of the one before
+  pub near-slot : (t : ℕ) → t ≤ e → e ≤ t + n → (cycle n (word m t) ≡ cycle n t → ⊥) → (cycle n (word m t) + 1 ≡ cycle n t → ⊥) → ⊥
+  near-slot t le near x y = ⊎-elim
+    (λ l. x (h .window t l near))
+    (λ g. let last : e ≡ t = omega arith in y (subst (λ u. cycle n (word m u) + 1 ≡ cycle n u) last at-end))
+    (cases-lt t e)
 
   -- no more pairs than places
   pub few : e ≤ m .head + n

@@ -123,11 +123,12 @@ pub record Enters (m : Model) (t i : ℕ) (m' : Model) : Type 0 where
   pub after : m' .under t ≡ Some i
   pub rest : (u : ℕ) → (u ≡ t → ⊥) → m' .under u ≡ m .under u
 
--- the pair of ticket t and index i leaves
+-- the pair of ticket t and index i leaves, and its index is outside
 pub record Leaves (m : Model) (t i : ℕ) (m' : Model) : Type 0 where
   pub before : m .under t ≡ Some i
   pub after : m' .under t ≡ None
   pub rest : (u : ℕ) → (u ≡ t → ⊥) → m' .under u ≡ m .under u
+  pub outside : Outside m' i
 
 -- an adding station stays so, or its pair enters; none enters under a ticket below the take mark
 -- that nobody holds
