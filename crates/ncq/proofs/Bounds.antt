@@ -1,20 +1,14 @@
 -- A write within bounds keeps the bounds of all.
 use mathlib.Core.Path.{_≡_, subst}
-use mathlib.Core.List.{List, [], _∷_}
-use Prim.Native.Nat.{ℕ, zero, suc, _+_, _<_, _≤_}
+use mathlib.Core.List.{List}
+use Prim.Native.Nat.{ℕ, _+_, _<_, _≤_}
 use native.Mathlib.Nat.{le-trans}
 use lib.ListN.{getD, set}
 use lib.Seq.{set-getD}
+use Rattle.ring.proofs.Entries.{all-set}
 use Rattle.ncq_table.specs.declared.Stage.{Stage}
 use Rattle.ncq_table.specs.declared.Stage.the-variants.{Idle}
 use Rattle.ncq.specs.Within.{past-index, past-ticket, LowIndices, LowTickets, LowWords}
-
-all-set : {X : Type 0} (P : X → Type 0) (xs : List X) (i : ℕ) (x d : X) → ((k : ℕ) → P (getD xs k d)) → P x → (k : ℕ) → P (getD (set xs i x) k d)
-all-set P [] i x d all p k = all k
-all-set P (y ∷ ys) zero x d all p zero = p
-all-set P (y ∷ ys) zero x d all p (suc k) = all (suc k)
-all-set P (y ∷ ys) (suc i) x d all p zero = all zero
-all-set P (y ∷ ys) (suc i) x d all p (suc k) = all-set P ys i x d (λ j. all (suc j)) p k
 
 pub indices-set : (n : ℕ) (stages : List Stage) (s : ℕ) (st : Stage) → LowIndices n stages → past-index st ≤ n → LowIndices n (set stages s st)
 indices-set n stages s st = all-set (λ v. past-index v ≤ n) stages s st Idle

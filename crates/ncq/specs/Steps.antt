@@ -3,7 +3,6 @@
 -- may-begin        whether a station may begin a call, with the first refusal that fits where it may not
 -- adds-now         the station's next step is of an add
 -- takes-now        the station's next step is of a take
--- swapped          whether a compare-and-set succeeds, and the cell after it
 -- age              the cycle of the word at a ticket's slot, seen from the ticket
 --
 -- Assumes nothing.
@@ -44,9 +43,6 @@ takes-now (N5 t) = false
 takes-now N6 = true
 takes-now (N7 h) = true
 takes-now (N8 h w) = true
-
-abbrev pub swapped : ℕ → ℕ → ℕ → Bool × ℕ
-swapped cell old new = cond (eqb cell old) (true, new) (false, cell)
 
 abbrev pub age : ℕ → ℕ → ℕ → Age
 age n w t = cond (eqb (cycle n w) (cycle n t)) Current (cond (eqb (cycle n w + 1) (cycle n t)) Previous Other)

@@ -8,12 +8,13 @@ ghost use lib.ListN.{getD};
 ghost use Rattle.std.specs.declared.option.Option.the-variants.{Some, None};
 ghost use Rattle.ring.specs.Sizes.{Sized, Crewed, Limited};
 ghost use Rattle.ring.specs.Meaning.{viewed};
-ghost use Rattle.ncq_table.specs.Table.{State, new-ring, full-words, empty, full, is-adding, is-there, any-below, adds, takes, turns};
+ghost use Rattle.ring.specs.Scans.{any-below};
+ghost use Rattle.ncq_table.specs.Table.{State, new-ring, full-words, empty, full, is-adding, is-there, adds, takes, turns};
 ghost use Rattle.ncq_table.specs.Table.{stage as stage-at};
 ghost use Rattle.ncq_table.specs.Stands.{Stands};
 ghost use Rattle.ncq.specs.View.{view};
 ghost use Rattle.ncq.specs.Within.{LowWords};
-ghost use Rattle.ncq.specs.Steps.{may-begin, adds-now, takes-now, swapped, age};
+ghost use Rattle.ncq.specs.Steps.{may-begin, adds-now, takes-now, age};
 
 mod ncq;
 
@@ -23,6 +24,7 @@ use ring::Progress;
 use ring::Refusal;
 use ring::Ring;
 use ring::check_make;
+use ring::compare_and_set;
 
 pub impl Ring for Ncq as NcqRing {
     ghost state = { State };
@@ -53,17 +55,6 @@ pub impl Ring for Ncq as NcqRing {
     fn turn(&mut self, station: usize) -> Result<Progress, Refusal> {
         self.step(station)
     }
-}
-
-// Sets the cell to `new` if it holds `old`, and tells whether it did.
-fn compare_and_set(cell: &mut usize, old: usize, new: usize) -> bool
-    ensures { λ r. ⌜ (r, now (cell .exit)) ≡ swapped (now (cell .entry)) old new ⌝ }
-{
-    if *cell == old {
-        *cell = new;
-        return true;
-    }
-    false
 }
 
 // Which time round the slots a ticket or a word belongs to.

@@ -14,12 +14,13 @@ use Rattle.ring.specs.Meaning.{AddRefused, TakeRefused, AddBegun, TakeBegun}
 use Rattle.ring.proofs.Tickets.{join-cycle, join-index}
 use Rattle.ncq_table.specs.declared.Stage.{Stage}
 use Rattle.ncq_table.specs.declared.Stage.the-variants.{Idle, N1, N2, N3, N4, N5, N6, N7, N8}
-use Rattle.ncq_table.specs.Table.{cycle, slot, index, join, Memory, word, State, stage, moved, is-idle, is-adding, is-there, any-below, is-outside, adds, takes}
+use Rattle.ncq_table.specs.Table.{cycle, slot, index, join, Memory, word, State, stage, moved, is-idle, is-adding, is-there, is-outside, adds, takes}
 use Rattle.ncq_table.specs.Stands.{Absent, writes, Does, Stands}
 use Rattle.ring.proofs.Options.{some-value, some-none}
 use Rattle.ncq_table.proofs.Pairs.{pair-there, pair-is}
 use Rattle.ncq_table.proofs.Window.{filled-low, pair-cycled}
-use Rattle.ncq_table.proofs.Scans.{any-found, any-from}
+use Rattle.ring.specs.Scans.{any-below}
+use Rattle.ring.proofs.Scans.{any-found, any-from}
 use Rattle.ncq_table.proofs.Stations.{adding-writes, idle-only}
 use Rattle.ncq_table.proofs.Built.{stage-mine, stage-other, still-one-writer, begins}
 

@@ -1,5 +1,4 @@
 mod Pairs
-pub mod Scans
 mod Window
 mod Stations
 mod Lone

@@ -11,9 +11,9 @@
 -- turns            what a turn does
 --
 -- Assumes nothing.
-use mathlib.Core.Bool.{Bool, true, false, cond, not, _&&_, _||_}
+use mathlib.Core.Bool.{Bool, true, false, cond, not, _&&_}
 use mathlib.Core.List.{List, map}
-use Prim.Native.Nat.{ℕ, zero, suc, _+_, _*_, _/_, _%_}
+use Prim.Native.Nat.{ℕ, _+_, _*_, _/_, _%_}
 use lib.Dec.{eqb, leb, ltb}
 use lib.ListN.{getD, set, replicate}
 use Rattle.std.specs.Iters.{counting}
@@ -25,6 +25,7 @@ use Rattle.ring.specs.declared.Progress.the-variants.{Going, Added, Taken}
 use Rattle.ring.specs.declared.Refusal.{Refusal}
 use Rattle.ring.specs.declared.Refusal.the-variants.{NoStation, Busy, NoCall, AtLimit, NoIndex, NotOutside}
 use Rattle.ring.specs.Sizes.{make-checked}
+use Rattle.ring.specs.Scans.{any-below}
 use Rattle.ncq_table.specs.declared.Stage.{Stage}
 use Rattle.ncq_table.specs.declared.Stage.the-variants.{Idle, N1, N2, N3, N4, N5, N6, N7, N8}
 
@@ -162,11 +163,6 @@ abbrev pub is-there : Memory → ℕ → ℕ → Bool
 is-there m i j =
     eqb (index (m .places) (getD (m .words) j 0)) i &&
     leb (m .head) (join (m .places) (cycle (m .places) (getD (m .words) j 0)) j)
-
--- some number below c passes the test
-abbrev pub any-below : ℕ → (ℕ → Bool) → Bool
-any-below zero test = false
-any-below (suc c) test = test c || any-below c test
 
 abbrev pub is-outside : State → ℕ → Bool
 is-outside q i =

@@ -3,3 +3,5 @@ pub mod Sizes
 pub mod Model
 pub mod Meaning
 pub mod Runs
+pub mod Scans
+pub mod Cells

@@ -15,6 +15,7 @@ ghost use Rattle.ring.specs.declared.Progress.{Progress};
 ghost use Rattle.ring.specs.Model.{Model};
 ghost use Rattle.ring.specs.Meaning.{viewed, Kept, MadeEmpty, MadeFull, AddBegun, TakeBegun, Turned, HasMeaning};
 ghost use Rattle.ring.specs.Runs.{RunsStand};
+ghost use Rattle.ring.specs.Cells.{swapped};
 
 // What a caller is told of an accepted call.
 #[derive(Clone, Copy)]
@@ -133,6 +134,17 @@ fn ask_sizes(places: usize, stations: usize, limit: usize) -> Result<(), Refusal
         return Err(Refusal::Limit);
     }
     Ok(())
+}
+
+// Sets the cell to `new` if it holds `old`, and tells whether it did.
+pub fn compare_and_set(cell: &mut usize, old: usize, new: usize) -> bool
+    ensures { λ r. ⌜ (r, now (cell .exit)) ≡ swapped (now (cell .entry)) old new ⌝ }
+{
+    if *cell == old {
+        *cell = new;
+        return true;
+    }
+    false
 }
 
 // A ring of the indices below `places` for `stations` stations.

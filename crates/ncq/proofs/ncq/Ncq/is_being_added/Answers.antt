@@ -1,8 +1,7 @@
 use mathlib.Core.Path.{sym}
 use Rattle.ncq_table.specs.Table.{is-adding, stage}
 use Rattle.ncq.specs.View.{view}
-use Rattle.ncq_table.proofs.Scans.{any-from}
-use Rattle.ncq.proofs.Scans.{none-more}
+use Rattle.ring.proofs.Scans.{any-from, none-more}
 use Rattle.ncq.proofs.ncq.Ncq.is_being_added.Needs as need
 
 pub returns-then-writes-later : need.returns-then-writes-later

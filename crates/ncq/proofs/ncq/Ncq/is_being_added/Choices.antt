@@ -1,6 +1,7 @@
 use mathlib.Core.Path.{_≡_}
 use mathlib.Core.Bool.{false}
-use Rattle.ncq_table.specs.Table.{any-below, is-adding, stage}
+use Rattle.ncq_table.specs.Table.{is-adding, stage}
+use Rattle.ring.specs.Scans.{any-below}
 use Rattle.ncq.specs.View.{view}
 use Rattle.ncq.proofs.ncq.Ncq.is_being_added.Given as given
 

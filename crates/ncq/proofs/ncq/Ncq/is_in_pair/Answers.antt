@@ -1,8 +1,7 @@
 use mathlib.Core.Path.{sym}
 use Rattle.ncq_table.specs.Table.{is-there}
 use Rattle.ncq.specs.View.{view}
-use Rattle.ncq_table.proofs.Scans.{any-from}
-use Rattle.ncq.proofs.Scans.{none-more}
+use Rattle.ring.proofs.Scans.{any-from, none-more}
 use Rattle.ncq.proofs.ncq.Ncq.is_in_pair.Needs as need
 
 pub returns-then-is-at : need.returns-then-is-at

@@ -1,6 +1,7 @@
 use mathlib.Core.Path.{_≡_}
 use mathlib.Core.Bool.{false}
-use Rattle.ncq_table.specs.Table.{any-below, is-there}
+use Rattle.ncq_table.specs.Table.{is-there}
+use Rattle.ring.specs.Scans.{any-below}
 use Rattle.ncq.specs.View.{view}
 use Rattle.ncq.proofs.ncq.Ncq.is_in_pair.Given as given
 
