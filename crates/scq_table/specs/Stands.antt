@@ -203,12 +203,12 @@ is-some (Some t) = true
 -- what the registers say of the memory
 
 -- the word that was loaded is empty, from before the ticket's cycle, and still there or overtaken
-abbrev Seen : Memory → ℕ → ℕ → Type 0
+abbrev pub Seen : Memory → ℕ → ℕ → Type 0
 Seen m t e = Blank m e × (word-cycle (m .places) e < cycle (m .places) t) ×
     ((e ≡ word m t) ⊎ (word-cycle (m .places) e < word-cycle (m .places) (word m t)))
 
 -- no take has spoilt the slot for the ticket
-abbrev Unspoilt : Memory → ℕ → Type 0
+abbrev pub Unspoilt : Memory → ℕ → Type 0
 Unspoilt m h = Current m h → Blank m (word m h) → ⊥
 
 abbrev pub Fits : Memory → Stage → Type 0
