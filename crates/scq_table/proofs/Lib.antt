@@ -1,2 +1,3 @@
 pub mod Words
+mod Lone
 pub mod Meaning
