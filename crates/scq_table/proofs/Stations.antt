@@ -1,5 +1,7 @@
 -- What a station's step says of what it does, and of the numbers in its registers.
-use mathlib.Core.Path.{_≡_, refl, sym, _∙_, ap}
+use mathlib.Core.Path.{_≡_, refl, sym, _∙_, ap, subst}
+use mathlib.Core.List.{List}
+use lib.IntN.{ℤ}
 use mathlib.Core.Bool.{Bool, true, false}
 use Prim.Native.Nat.{ℕ, _<_, _≤_}
 use native.Mathlib.Omega.{arith}
@@ -9,8 +11,8 @@ use Rattle.ring.specs.Model.{Doing, idle, adding, closing, seeking}
 use Rattle.ring.proofs.Options.{some-value, some-none}
 use Rattle.scq_table.specs.declared.Stage.{Stage}
 use Rattle.scq_table.specs.declared.Stage.the-variants.{Idle, A1, A2, A3, A4, A5, A6, T1, T2, T3, T4, T5, T6, T7, T8, T9, T10, T11}
-use Rattle.scq_table.specs.Table.{Memory}
-use Rattle.scq_table.specs.Stands.{writes, brings, swaps, closes, holds, live, behind, Fits, Does}
+use Rattle.scq_table.specs.Table.{index, Memory, word}
+use Rattle.scq_table.specs.Stands.{writes, brings, swaps, closes, holds, live, behind, Fits, Does, Current, Blank, Seen, Unspoilt}
 
 -- where there is no register, nothing is in it
 none : {X : Type 0} (x : X) {A : Type 0} → None ≡ Some x → A
@@ -156,6 +158,26 @@ holds-low m (T9 h v) x p q = omega (arith, p .0, some-value _ _ q)
 holds-low m (T10 h) x p q = omega (arith, p, some-value _ _ q)
 holds-low m (T11 h) x p q = omega (arith, p, some-value _ _ q)
 
+pub swaps-seen : (m : Memory) (st : Stage) (x w : ℕ) → Fits m st → swaps st ≡ Some (x, w) → Seen m x w
+swaps-seen m Idle x w p q = none (x, w) q
+swaps-seen m (A1 i) x w p q = none (x, w) q
+swaps-seen m (A2 i t) x w p q = none (x, w) q
+swaps-seen m (A3 i t e) x w p q = none (x, w) q
+swaps-seen m (A4 i t e) x w p q = subst (λ y. Seen m (y .0) (y .1)) (some-value _ _ q) (p .2)
+swaps-seen m (A5 t) x w p q = none (x, w) q
+swaps-seen m (A6 t) x w p q = none (x, w) q
+swaps-seen m T1 x w p q = none (x, w) q
+swaps-seen m T2 x w p q = none (x, w) q
+swaps-seen m (T3 h) x w p q = none (x, w) q
+swaps-seen m (T4 h e) x w p q = none (x, w) q
+swaps-seen m (T5 h e) x w p q = none (x, w) q
+swaps-seen m (T6 h) x w p q = none (x, w) q
+swaps-seen m (T7 h u v) x w p q = none (x, w) q
+swaps-seen m (T8 h) x w p q = none (x, w) q
+swaps-seen m (T9 h v) x w p q = none (x, w) q
+swaps-seen m (T10 h) x w p q = none (x, w) q
+swaps-seen m (T11 h) x w p q = none (x, w) q
+
 -- what it does in the model
 pub adding-writes : (m : Memory) (st : Stage) (d : Doing) (j f : ℕ) → Does m st d → d ≡ adding j f → writes st ≡ Some j
 adding-writes m Idle d j f p q = cc
@@ -257,3 +279,34 @@ does-on m m' a b (T8 h) d p = p
 does-on m m' a b (T9 h v) d p = p
 does-on m m' a b (T10 h) d p = p
 does-on m m' a b (T11 h) d p = p
+
+-- a change of the memory
+
+module _ (m : Memory) (h' t' : ℕ) (z' : ℤ) (ws' : List ℕ) where
+  abbrev pub changed : Memory
+  changed = record { places = m .places; head = h'; tail = t'; threshold = z'; words = ws' }
+
+  -- the marks have not fallen, and the words still say what the station's registers say of them
+  pub fits-on : m .tail ≤ t' → m .head ≤ h' → (st : Stage) → ((t e : ℕ) → Seen m t e → Seen changed t e) →
+      ((h : ℕ) → holds st ≡ Some h → Unspoilt m h → Unspoilt changed h) →
+      ((h e : ℕ) → holds st ≡ Some h → Current m h → index (m .places) (word m h) ≡ index (m .places) e → (Blank m e → ⊥) →
+          Current changed h × (index (m .places) (word changed h) ≡ index (m .places) e)) →
+      Fits m st → Fits changed st
+  fits-on a b Idle seen unspoilt taken p = p
+  fits-on a b (A1 i) seen unspoilt taken p = p
+  fits-on a b (A2 i t) seen unspoilt taken p = (p .0, omega (arith, p .1))
+  fits-on a b (A3 i t e) seen unspoilt taken p = (p .0, omega (arith, p .1), seen t e (p .2))
+  fits-on a b (A4 i t e) seen unspoilt taken p = (p .0, omega (arith, p .1), seen t e (p .2))
+  fits-on a b (A5 t) seen unspoilt taken p = omega (arith, p)
+  fits-on a b (A6 t) seen unspoilt taken p = omega (arith, p)
+  fits-on a b T1 seen unspoilt taken p = p
+  fits-on a b T2 seen unspoilt taken p = p
+  fits-on a b (T3 h) seen unspoilt taken p = (omega (arith, p .0), unspoilt h refl (p .1))
+  fits-on a b (T4 h e) seen unspoilt taken p = (let q = taken h e refl (p .1) (p .2) (p .3) in (omega (arith, p .0), q .0, q .1, p .3))
+  fits-on a b (T5 h e) seen unspoilt taken p = (omega (arith, p .0), unspoilt h refl (p .1), p .2)
+  fits-on a b (T6 h) seen unspoilt taken p = omega (arith, p)
+  fits-on a b (T7 h u v) seen unspoilt taken p = (omega (arith, p .0), p .1, p .2, omega (arith, p .3))
+  fits-on a b (T8 h) seen unspoilt taken p = omega (arith, p)
+  fits-on a b (T9 h v) seen unspoilt taken p = (omega (arith, p .0), p .1, omega (arith, p .2))
+  fits-on a b (T10 h) seen unspoilt taken p = omega (arith, p)
+  fits-on a b (T11 h) seen unspoilt taken p = omega (arith, p)
