@@ -6,5 +6,7 @@ mod Window
 mod Charges
 mod Older
 mod Writes
+mod Marks
 mod Lone
+mod Built
 pub mod Meaning

@@ -66,7 +66,8 @@ module _ (m : Memory) (k : ℕ) (at : ℕ → Stage) (charge : ℕ → ℕ) (sou
     pub shared : Shared m'
     pub fits-mine : Fits m' st
     pub fits-others : (r : ℕ) → (r ≡ s → ⊥) → Fits m' (at r)
-    pub writes-less : (i : ℕ) → writes st ≡ Some i → writes (at s) ≡ Some i
+    -- no index but one that was outside is new
+    pub writes-from : (i : ℕ) → writes st ≡ Some i → (writes (at s) ≡ Some i) ⊎ (((r : ℕ) → writes (at r) ≡ Some i → ⊥) × ((t : ℕ) → pair m' t ≡ Some i → ⊥))
     -- no pair but the station's own is new
     pub pair-from : (t i : ℕ) → pair m' t ≡ Some i → (pair m t ≡ Some i) ⊎ ((closes st ≡ Some t) × (writes (at s) ≡ Some i) × (writes st ≡ None))
     pub holds-from : (t : ℕ) → holds st ≡ Some t → (holds (at s) ≡ Some t) ⊎ (t ≡ m .head)
@@ -88,7 +89,7 @@ module _ (m : Memory) (k : ℕ) (at : ℕ → Stage) (charge : ℕ → ℕ) (sou
     not-both : (t r i : ℕ) → pair m' t ≡ Some i → writes (at' r) ≡ Some i → ⊥
     not-both t r i a w = ⊎-elim
         (λ b. ⊎-elim
-        (λ c. sound .not-both t s i b (p .writes-less i (c .1)))
+        (λ c. ⊎-elim (λ d. sound .not-both t s i b d) (λ d. d .1 t a) (p .writes-from i (c .1)))
         (λ c. sound .not-both t r i b (c .1))
         (had at at' s st mine others writes r i w))
         (λ b. ⊎-elim
@@ -137,7 +138,7 @@ module _ (m : Memory) (k : ℕ) (at : ℕ → Stage) (charge : ℕ → ℕ) (sou
       crew = omega (arith, p .places-stay, sound .crew);
       beyond = λ r l. others r (λ e. omega arith) ∙ sound .beyond r l;
       fits = by-station at at' s st mine others (λ r x. Fits m' x) (p .fits-mine) (p .fits-others);
-      one-writer = one-still at at' s st mine others writes (sound .one-writer) (λ i w. inl (p .writes-less i w));
+      one-writer = one-still at at' s st mine others writes (sound .one-writer) (λ i w. ⊎-elim inl (λ d. inr (d .0)) (p .writes-from i w));
       not-both = not-both;
       one-holder = one-still at at' s st mine others holds (sound .one-holder)
           (λ t h. ⊎-elim inl (λ e. inr (λ r g. omega (arith, holds-low m (at r) t (sound .fits r) g))) (p .holds-from t h));
