@@ -44,6 +44,14 @@ count-fewer (suc c) test j l e = ⊎-elim
     (λ d. omega (arith, at-most-one (test c), count-fewer c test j (omega arith) e))
     (cases-eq j c)
 
+-- one that passes is
+pub count-some : (c : ℕ) (test : ℕ → Bool) (j : ℕ) → j < c → test j ≡ true → 1 ≤ count-below c test
+count-some zero test j l e = absurd (omega arith)
+count-some (suc c) test j l e = ⊎-elim
+    (λ q. omega (arith, ap one-if (ap test (sym q) ∙ e)))
+    (λ d. omega (arith, count-some c test j (omega arith) e))
+    (cases-eq j c)
+
 pub count-same : (c : ℕ) (test other : ℕ → Bool) → ((j : ℕ) → j < c → test j ≡ other j) → count-below c test ≡ count-below c other
 count-same zero test other same = refl
 count-same (suc c) test other same = ap₂ (λ x y. one-if x + y) (same c (omega arith)) (count-same c test other (λ j l. same j (omega arith)))

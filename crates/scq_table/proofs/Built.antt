@@ -39,20 +39,8 @@ each-once q m h = record {
     writing : (s i f : ℕ) → m .doing s ≡ adding i f → writes (stage q s) ≡ Some i
     writing s i f p = adding-writes mem (stage q s) (m .doing s) i f (h .does s) p
 
--- a call of station s has left memory m', step st, and the model with d and the lone turns c
-module _ (q : State) (m : Model) (h : Stands q m) (s : ℕ) (here : s < q .stations) (m' : Memory) (st : Stage) (d : Doing) where
-  abbrev pub after : (ℕ → ℕ) → Model
-  after c = record {
-    places = m .places;
-    stations = m .stations;
-    limit = m .limit;
-    under = pair m';
-    add-mark = m' .tail;
-    take-mark = m' .head;
-    doing = put (m .doing) s d;
-    lone = c;
-  }
-
+-- a call of station s has left memory m' and step st
+module _ (q : State) (m : Model) (h : Stands q m) (s : ℕ) (here : s < q .stations) (m' : Memory) (st : Stage) where
   abbrev pub at' : ℕ → Stage
   at' = stage (moved q s m' st)
 
@@ -66,11 +54,24 @@ module _ (q : State) (m : Model) (h : Stands q m) (s : ℕ) (here : s < q .stati
   abbrev pub Kept-with : (ℕ → ℕ) → Type 0
   Kept-with charge' = Keeps (q .memory) (q .stations) (stage q) (h .charge) (h .sound) s here m' at' st charge' stage-mine stage-other
 
-  pub built : (c : ℕ → ℕ) (charge' : ℕ → ℕ) → Kept-with charge' → Does m' st d →
+  -- the model with d and the lone turns c
+  abbrev pub after : Doing → (ℕ → ℕ) → Model
+  after d c = record {
+    places = m .places;
+    stations = m .stations;
+    limit = m .limit;
+    under = pair m';
+    add-mark = m' .tail;
+    take-mark = m' .head;
+    doing = put (m .doing) s d;
+    lone = c;
+  }
+
+  pub built : (d : Doing) (c : ℕ → ℕ) (charge' : ℕ → ℕ) → Kept-with charge' → Does m' st d →
       ((b : ℕ) × (c s + b ≤ 15 * m .places + 2) × Left m' st b) →
       ((r : ℕ) → (r ≡ s → ⊥) → Sound m' (q .stations) at' charge' → (b : ℕ) × (c r + b ≤ 15 * m .places + 2) × Left m' (stage q r) b) →
-      Stands (moved q s m' st) (after c)
-  built c charge' keeps does soon-mine soon-others = record {
+      Stands (moved q s m' st) (after d c)
+  built d c charge' keeps does soon-mine soon-others = record {
     charge = charge';
     sound = sound;
     table-room = rw length-set (h .table-room);
@@ -100,7 +101,7 @@ module _ (q : State) (m : Model) (h : Stands q m) (s : ℕ) (here : s < q .stati
 
   -- what a row of the table has to show
   pub record Row-shows (charge' : ℕ → ℕ) : Type 0 where
-    pub keeps : Kept-with q m h s here m' st d charge'
+    pub keeps : Kept-with q m h s here m' st charge'
     pub does-mine : Does m' st d
     pub sooner : Sooner (q .memory) (stage q s) m' st
     pub goes : Goes m s (m .doing s) a then
@@ -123,7 +124,7 @@ module _ (q : State) (m : Model) (h : Stands q m) (s : ℕ) (here : s < q .stati
       stands = built q m h s here m' st d counts charge' (p .keeps) (p .does-mine) fewer
           (λ r e sound. (15 * m' .places + 2,
             omega (arith, put-other (λ r. 0) s (m .lone s + 1) r e, h .places, p .keeps .places-stay),
-            left-most m' (q .stations) (at' q m h s here m' st d) charge' sound (stage q r)))
+            left-most m' (q .stations) (at' q m h s here m' st) charge' sound (stage q r)))
 
       may-turn : MayTurn m s a then
       may-turn = record {
@@ -144,7 +145,7 @@ module _ (q : State) (m : Model) (h : Stands q m) (s : ℕ) (here : s < q .stati
   abbrev pub begun : Model
   begun = after q m h s here (q .memory) st d (put (m .lone) s 0)
 
-  pub begins : stage q s ≡ Idle → Kept-with q m h s here (q .memory) st d (h .charge) → Does (q .memory) st d →
+  pub begins : stage q s ≡ Idle → Kept-with q m h s here (q .memory) st (h .charge) → Does (q .memory) st d →
       (m' : Model) × (Begun m s d m' × Stands (moved q s (q .memory) st) m')
   begins at keeps does = (
     begun,

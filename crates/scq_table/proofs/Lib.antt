@@ -9,4 +9,5 @@ mod Writes
 mod Marks
 mod Lone
 mod Built
+mod Rows
 pub mod Meaning
