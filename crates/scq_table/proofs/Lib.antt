@@ -1,3 +1,4 @@
 pub mod Words
 mod Lone
+mod Makes
 pub mod Meaning
