@@ -1,9 +1,9 @@
 -- A new ring stands for a new model.
 use mathlib.Core.Path.{_≡_, refl, sym, _∙_, ap, subst}
 use mathlib.Core.Bool.{Bool, true, false, cond, not, _&&_}
-use mathlib.Core.Logic.{_⊎_, inl, inr, ⊎-elim}
+use mathlib.Core.Logic.{inl, inr, ⊎-elim}
 use Prim.Native.Nat.{ℕ, zero, suc, _+_, _-_, _*_, _<_, _≤_}
-use native.Mathlib.Nat.{div-add-mod, mod-lt, mod-eq-of-lt, div-eq-of-lt}
+use native.Mathlib.Nat.{div-add-mod, mod-lt, div-eq-of-lt}
 use native.Mathlib.Omega.{arith}
 use lib.Dec.{eqb, ltb}
 use lib.IntN.{ℤ, pos, negsuc, _+ℤ_}
@@ -18,9 +18,8 @@ use Rattle.std.specs.declared.option.Option.the-variants.{Some, None}
 use Rattle.std.specs.declared.result.Result.{Result}
 use Rattle.std.specs.declared.result.Result.the-variants.{Ok, Err}
 use Rattle.ring.specs.declared.Refusal.{Refusal}
-use Rattle.ring.specs.Scans.{count-below}
 use Rattle.ring.specs.Sizes.{Sized, make-checked, Checked}
-use Rattle.ring.specs.Model.{idle, adding, Model, EachOnce}
+use Rattle.ring.specs.Model.{idle, adding, Model}
 use Rattle.ring.specs.Meaning.{New, NoPairs, AllPairs, Made, MadeEmpty, MadeFull}
 use Rattle.ring.proofs.Entries.{getD-same}
 use Rattle.ring.proofs.Options.{some-value, some-none}
@@ -29,7 +28,7 @@ use Rattle.ring.proofs.Sizes.{checked, sized-low, sized-high}
 use Rattle.ring.proofs.Tickets as tickets
 use Rattle.scq_table.specs.declared.Stage.the-variants.{Idle}
 use Rattle.scq_table.specs.Table.{cycle, slot, word-cycle, index, bottom, join, top, Memory, word, State, stage, new-ring, new-words, made, empty, full}
-use Rattle.scq_table.specs.Stands.{Current, Blank, pair, writes, brings, holds, is-some, Fits, Does, Left, Shared, Dead, overtaken, spoilt, Charged, holders, Sound, Stands}
+use Rattle.scq_table.specs.Stands.{Current, Blank, pair, writes, brings, holds, is-some, Fits, Does, Left, Shared, overtaken, spoilt, Charged, holders, Sound, Stands}
 use Rattle.scq_table.proofs.Words.{join-cycle, join-index, bottom-low}
 use Rattle.scq_table.proofs.Lone.{pair-there}
 
@@ -140,9 +139,6 @@ module _ (n k l c t : ℕ) (z : ℤ) (low : c ≤ n) (end : t ≡ 2 * n + c) (hi
         (λ g. absurd (p .1 (is-blank u g)))
         (cases-lt (slot n u) c)
 
-    idle-at : (s : ℕ) → stage q s ≡ Idle
-    idle-at s = all-idle s
-
     new-shared : Shared m
     new-shared = record {
       sized = sized;
@@ -159,7 +155,7 @@ module _ (n k l c t : ℕ) (z : ℤ) (low : c ≤ n) (end : t ≡ 2 * n + c) (hi
     new-charged = record {
       low = λ u a b. omega arith;
       apart = λ u v a b d f e. omega arith;
-      to-item = λ u i a b. ⊎-elim (λ e. omega (arith, pair-new u i e)) (λ p. absurd (some-none _ (sym (p .1) ∙ ap brings (idle-at (p .0)))));
+      to-item = λ u i a b. ⊎-elim (λ e. omega (arith, pair-new u i e)) (λ p. absurd (some-none _ (sym (p .1) ∙ ap brings (all-idle (p .0)))));
       from-item = λ u a b d. inl (subst (λ v. pair m v ≡ Some (u - 2 * n)) (omega arith) (pair-at (u - 2 * n) (omega arith)));
       from-older = λ u v i a b e p. absurd (omega arith);
     }
@@ -168,11 +164,11 @@ module _ (n k l c t : ℕ) (z : ℤ) (low : c ≤ n) (end : t ≡ 2 * n + c) (hi
     new-sound = record {
       shared = new-shared;
       crew = few;
-      beyond = λ s g. idle-at s;
-      fits = λ s. subst (Fits m) (sym (idle-at s)) tt;
-      one-writer = λ s r i w v. absurd (some-none i (sym w ∙ ap writes (idle-at s)));
-      not-both = λ u s i e w. some-none i (sym w ∙ ap writes (idle-at s));
-      one-holder = λ s r u w v. absurd (some-none u (sym w ∙ ap holds (idle-at s)));
+      beyond = λ s g. all-idle s;
+      fits = λ s. subst (Fits m) (sym (all-idle s)) tt;
+      one-writer = λ s r i w v. absurd (some-none i (sym w ∙ ap writes (all-idle s)));
+      not-both = λ u s i e w. some-none i (sym w ∙ ap writes (all-idle s));
+      one-holder = λ s r u w v. absurd (some-none u (sym w ∙ ap holds (all-idle s)));
       held-or-dead = λ u a. inr (⊎-elim
           (λ b. overtaken (omega (arith, div-eq-of-lt a, used-cycle u b)))
           (λ g. spoilt (blank-cycle u g ∙ sym (div-eq-of-lt a)) (is-blank u g))
@@ -193,8 +189,8 @@ module _ (n k l c t : ℕ) (z : ℤ) (low : c ≤ n) (end : t ≡ 2 * n + c) (hi
       pairs = λ u. refl;
       adds-at = refl;
       takes-at = refl;
-      does = λ s. subst (λ st. Does m st idle) (sym (idle-at s)) refl;
-      ends-soon = λ s. (0, omega arith, subst (λ st. Left m st 0) (sym (idle-at s)) tt);
+      does = λ s. subst (λ st. Does m st idle) (sym (all-idle s)) refl;
+      ends-soon = λ s. (0, omega arith, subst (λ st. Left m st 0) (sym (all-idle s)) tt);
     }
 
     is-new : New n k l new
@@ -214,9 +210,19 @@ module _ (n k l c t : ℕ) (z : ℤ) (low : c ≤ n) (end : t ≡ 2 * n + c) (hi
       };
     }
 
-  new-means : (filled : Model → Type 0) → (Sized n → k ≤ n → filled new) → (r : Result (Unit {0}) Refusal) → Checked n k l r → Made Stands filled n k l (made r q)
-  new-means filled all (Ok u) c = (c, (new, (is-new (c .0) (c .1 .1), all (c .0) (c .1 .1), new-stands (c .0) (c .1 .1))))
-  new-means filled all (Err e) c = c
+  -- the indices in pairs are those below c
+  new-means : (filled : Model → Type 0) →
+      (((u i : ℕ) → pair m u ≡ Some i → i < c) → ((i : ℕ) → i < c → (u : ℕ) × (pair m u ≡ Some i)) → filled new) →
+      Made Stands filled n k l (made (make-checked n k l) q)
+  new-means filled by = go (make-checked n k l) (checked n k l)
+    where
+      go : (r : Result (Unit {0}) Refusal) → Checked n k l r → Made Stands filled n k l (made r q)
+      go (Ok u) (sized, crewed, limited) =
+          let few = crewed .1 in (
+            (sized, crewed, limited),
+            (new, (is-new sized few, by (λ u i e. pair-new sized few u i e .1) (λ i a. (2 * n + i, pair-at sized few i a)), new-stands sized few)),
+          )
+      go (Err e) refused = refused
 
 no-pair : (o : Option ℕ) → ((i : ℕ) → o ≡ Some i → ⊥) → o ≡ None
 no-pair None none = refl
@@ -224,10 +230,8 @@ no-pair (Some i) none = absurd (none i refl)
 
 pub means-empty : (n k l : ℕ) → MadeEmpty Stands n k l (empty n k l)
 means-empty n k l = new-means n k l 0 (2 * n) (negsuc 0) (omega arith) (omega arith) (omega (arith, ints)) (λ j a. absurd (omega arith)) NoPairs
-    (λ sized few t. no-pair _ (λ i e. omega (arith, pair-new n k l 0 (2 * n) (negsuc 0) (omega arith) (omega arith) (omega (arith, ints)) (λ j a. absurd (omega arith)) sized few t i e)))
-    (make-checked n k l) (checked n k l)
+    (λ low there u. no-pair _ (λ i e. omega (arith, low u i e)))
 
 pub means-full : (n k l : ℕ) → MadeFull Stands n k l (full n k l)
 means-full n k l = new-means n k l n (3 * n) (top n) (omega arith) (omega arith) (omega (arith, ints)) (λ j a. omega (arith, ints)) AllPairs
-    (λ sized few i a. (2 * n + i, pair-at n k l n (3 * n) (top n) (omega arith) (omega arith) (omega (arith, ints)) (λ j a. omega (arith, ints)) sized few i a))
-    (make-checked n k l) (checked n k l)
+    (λ low there. there)
