@@ -10,4 +10,5 @@ mod Marks
 mod Lone
 mod Built
 mod Rows
+mod Makes
 pub mod Meaning

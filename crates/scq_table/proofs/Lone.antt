@@ -181,7 +181,7 @@ total P c each = ((λ x. pick x (cases-lt x c)), (λ x l. picked x l (cases-lt x
     picked x l (inl a) = each x a .1
     picked x l (inr g) = absurd (omega arith)
 
-pair-there : (m : Memory) (t : ℕ) → Current m t → (Blank m (word m t) → ⊥) → pair m t ≡ Some (index (m .places) (word m t))
+pub pair-there : (m : Memory) (t : ℕ) → Current m t → (Blank m (word m t) → ⊥) → pair m t ≡ Some (index (m .places) (word m t))
 pair-there m t own full = cond-true _ _ _ (and-from _ _
     (eq-eqb (word-cycle (m .places) (word m t)) (cycle (m .places) t) own)
     (not-from-false _ (ne-eqb (index (m .places) (word m t)) (bottom (m .places)) full)))
@@ -199,18 +199,16 @@ module _ (m : Memory) (k : ℕ) (at : ℕ → Stage) (charge : ℕ → ℕ) (sou
         (λ x y l o e. let same = some-value _ _ (sym (f .1 x l) ∙ (ap (λ s. behind (at s)) e ∙ f .1 y o)) in omega arith))
 
   -- the ticket of the word at slot x
-  owner : ℕ → ℕ
+  abbrev owner : ℕ → ℕ
   owner x = 2 * m .places * word-cycle (m .places) (word m x) + x
 
   owner-slot : (x : ℕ) → x < 2 * m .places → slot (m .places) (owner x) ≡ x
-  unfolding owner
   owner-slot x l = join-index (2 * m .places) (word-cycle (m .places) (word m x)) x l
 
   owner-word : (x : ℕ) → x < 2 * m .places → word m (owner x) ≡ word m x
   owner-word x l = ap (λ j. getD (m .words) j 0) (owner-slot x l ∙ sym (mod-eq-of-lt l))
 
   owner-pair : (x : ℕ) → x < 2 * m .places → (Blank m (word m x) → ⊥) → pair m (owner x) ≡ Some (index (m .places) (word m x))
-  unfolding owner
   owner-pair x l full =
       let same = owner-word x l in
       let own : Current m (owner x) = ap (word-cycle (m .places)) same ∙ sym (join-cycle (2 * m .places) (word-cycle (m .places) (word m x)) x l) in
