@@ -8,21 +8,21 @@ use native.Mathlib.Nat.{mod-eq-of-lt}
 use native.Mathlib.Omega.{arith}
 use lib.Dec.{eqb}
 use lib.IntN.{ℤ, pos, negsuc, _-ℤ_}
-use lib.ListN.{getD}
 use lib.Signed.{leZ, _≤ℤ_}
 use Rattle.std.proofs.shelf.Signed.{ints}
-use Rattle.std.proofs.shelf.Tests.{cases-lt, cases-eq, true≢false, both-ways, eqb-true, eq-eqb, ne-eqb, and-from, not-from-false, cond-true}
+use Rattle.std.proofs.shelf.Tests.{cases-lt, cases-eq, true≢false, both-ways, eqb-true, eq-eqb}
 use Rattle.std.specs.declared.option.Option.the-variants.{Some}
 use Rattle.ring.proofs.Options.{some-value, some-none}
 use Rattle.ring.proofs.Pigeonhole.{pigeonhole}
-use Rattle.ring.proofs.Sizes.{sized-low}
 use Rattle.ring.specs.Scans.{any-below}
 use Rattle.ring.proofs.Scans.{any-found, any-from}
-use Rattle.ring.proofs.Tickets.{in-window, join-cycle, join-index}
+use Rattle.ring.proofs.Tickets.{in-window}
 use Rattle.scq_table.specs.declared.Stage.{Stage}
 use Rattle.scq_table.specs.declared.Stage.the-variants.{Idle, A1, A2, A3, A4, A5, A6, T1, T2, T3, T4, T5, T6, T7, T8, T9, T10, T11}
-use Rattle.scq_table.specs.Table.{cycle, slot, word-cycle, index, bottom, Memory, word, with-tail, with-head, with-threshold}
-use Rattle.scq_table.specs.Stands.{Current, Blank, pair, above-zero, Rounds, InRounds, Left, behind, Sound}
+use Rattle.scq_table.specs.Table.{slot, index, bottom, Memory, word, with-tail, with-head, with-threshold}
+use Rattle.scq_table.specs.Stands.{Blank, above-zero, Rounds, InRounds, Left, behind, Sound}
+use Rattle.scq_table.proofs.Pairs.{same-word, home}
+use Rattle.scq_table.proofs.Window.{some-place, home-pair}
 
 abbrev pub Sooner : Memory → Stage → Memory → Stage → Type 0
 Sooner m st m' st' = (b : ℕ) → Left m st b → (b' : ℕ) × (b' < b) × Left m' st' b'
@@ -181,14 +181,9 @@ total P c each = ((λ x. pick x (cases-lt x c)), (λ x l. picked x l (cases-lt x
     picked x l (inl a) = each x a .1
     picked x l (inr g) = absurd (omega arith)
 
-pub pair-there : (m : Memory) (t : ℕ) → Current m t → (Blank m (word m t) → ⊥) → pair m t ≡ Some (index (m .places) (word m t))
-pair-there m t own full = cond-true _ _ _ (and-from _ _
-    (eq-eqb (word-cycle (m .places) (word m t)) (cycle (m .places) t) own)
-    (not-from-false _ (ne-eqb (index (m .places) (word m t)) (bottom (m .places)) full)))
-
 module _ (m : Memory) (k : ℕ) (at : ℕ → Stage) (charge : ℕ → ℕ) (sound : Sound m k at charge) where
-  some-place : 1 ≤ m .places
-  some-place = sized-low (m .places) (sound .shared .sized)
+  one-place : 1 ≤ m .places
+  one-place = some-place m (sound .shared)
 
   -- Head is no more than k tickets past Tail
   head-near : m .head ≤ m .tail + k
@@ -197,22 +192,6 @@ module _ (m : Memory) (k : ℕ) (at : ℕ → Stage) (charge : ℕ → ℕ) (sou
       omega (arith, pigeonhole k (m .head - m .tail) (f .0)
         (λ x l. ⊎-elim (λ a. a) (λ g. absurd (some-none (m .tail + x) (sym (f .1 x l) ∙ ap behind (sound .beyond (f .0 x) g)))) (cases-lt (f .0 x) k))
         (λ x y l o e. let same = some-value _ _ (sym (f .1 x l) ∙ (ap (λ s. behind (at s)) e ∙ f .1 y o)) in omega arith))
-
-  -- the ticket of the word at slot x
-  abbrev owner : ℕ → ℕ
-  owner x = 2 * m .places * word-cycle (m .places) (word m x) + x
-
-  owner-slot : (x : ℕ) → x < 2 * m .places → slot (m .places) (owner x) ≡ x
-  owner-slot x l = join-index (2 * m .places) (word-cycle (m .places) (word m x)) x l
-
-  owner-word : (x : ℕ) → x < 2 * m .places → word m (owner x) ≡ word m x
-  owner-word x l = ap (λ j. getD (m .words) j 0) (owner-slot x l ∙ sym (mod-eq-of-lt l))
-
-  owner-pair : (x : ℕ) → x < 2 * m .places → (Blank m (word m x) → ⊥) → pair m (owner x) ≡ Some (index (m .places) (word m x))
-  owner-pair x l full =
-      let same = owner-word x l in
-      let own : Current m (owner x) = ap (word-cycle (m .places)) same ∙ sym (join-cycle (2 * m .places) (word-cycle (m .places) (word m x)) x l) in
-      pair-there m (owner x) own (λ e. full (ap (index (m .places)) (sym same) ∙ e)) ∙ ap (λ w. Some (index (m .places) w)) same
 
   -- n indices do not fill 2n slots
   blank-slot : (x : ℕ) × Blank m (word m x)
@@ -223,25 +202,27 @@ module _ (m : Memory) (k : ℕ) (at : ℕ → Stage) (charge : ℕ → ℕ) (sou
 
       go : (b : Bool) → any-below (2 * m .places) blank ≡ b → (x : ℕ) × Blank m (word m x)
       go true e = let found = any-found (2 * m .places) blank e in (found .0, eqb-true _ _ (found .2))
-      go false e = absurd (omega (arith, some-place, pigeonhole (m .places) (2 * m .places) (λ x. index (m .places) (word m x))
+      go false e = absurd (omega (arith, one-place, pigeonhole (m .places) (2 * m .places) (λ x. index (m .places) (word m x))
           (λ x l. ⊎-elim (λ q. absurd (full x l q)) (λ a. a) (sound .shared .indices x))
-          (λ x y l o q. let same = sound .shared .one-pair (owner x) (owner y) _ (owner-pair x l (full x l)) (owner-pair y o (full y o) ∙ ap Some (sym q)) in
-          sym (owner-slot x l) ∙ (ap (slot (m .places)) same ∙ owner-slot y o))))
+          (λ x y l o q.
+          let same = sound .shared .one-pair _ _ _ (home-pair m one-place x (full x l)) (home-pair m one-place y (full y o) ∙ ap Some (sym q)) in
+          let slots = sym (home m x one-place .1) ∙ (ap (slot (m .places)) same ∙ home m y one-place .1) in
+          sym (mod-eq-of-lt l) ∙ (slots ∙ mod-eq-of-lt o))))
         where
           full : (x : ℕ) → x < 2 * m .places → Blank m (word m x) → ⊥
           full x l q = both-ways (any-below (2 * m .places) blank) e (any-from (2 * m .places) blank x l (eq-eqb _ _ q))
 
   rounds : Rounds m (3 * m .places)
   rounds =
-      let g = in-window (2 * m .places) (max (m .head) (m .tail)) (blank-slot .0) (omega (arith, some-place)) in
-      let same : word m (g .0) ≡ word m (blank-slot .0) = ap (λ j. getD (m .words) j 0) (g .3) in
+      let g = in-window (2 * m .places) (max (m .head) (m .tail)) (blank-slot .0) (omega (arith, one-place)) in
+      let same = same-word m (g .0) (blank-slot .0) (g .3) in
       (g .0, omega (arith, g .1), omega (arith, g .1), ap (index (m .places)) same ∙ blank-slot .1, omega (arith, g .2, head-near, sound .crew))
 
   in-rounds : (more : ℕ) → more < 8 → InRounds m more (15 * m .places + 2)
-  in-rounds more l = (3 * m .places, rounds, omega (arith, some-place))
+  in-rounds more l = (3 * m .places, rounds, omega (arith, one-place))
 
   tries : above-zero (m .threshold) + 1 ≤ 3 * m .places
-  tries = omega (arith, some-place, above-low (m .threshold) (3 * m .places - 1) (sound .shared .threshold-high))
+  tries = omega (arith, one-place, above-low (m .threshold) (3 * m .places - 1) (sound .shared .threshold-high))
 
   pub left-most : (st : Stage) → Left m st (15 * m .places + 2)
   left-most Idle = tt
@@ -257,8 +238,8 @@ module _ (m : Memory) (k : ℕ) (at : ℕ → Stage) (charge : ℕ → ℕ) (sou
   left-most (T4 h e) = omega arith
   left-most (T5 h e) = inr (omega (arith, tries))
   left-most (T6 h) = omega (arith, tries)
-  left-most (T7 h u v) = inr (omega (arith, some-place))
-  left-most (T8 h) = omega (arith, some-place)
-  left-most (T9 h v) = omega (arith, some-place)
+  left-most (T7 h u v) = inr (omega (arith, one-place))
+  left-most (T8 h) = omega (arith, one-place)
+  left-most (T9 h v) = omega (arith, one-place)
   left-most (T10 h) = omega arith
   left-most (T11 h) = omega (arith, tries)

@@ -1,18 +1,18 @@
 -- A new ring stands for a new model.
 use mathlib.Core.Path.{_≡_, refl, sym, _∙_, ap, subst}
-use mathlib.Core.Bool.{Bool, true, false, cond, not, _&&_}
+use mathlib.Core.Bool.{cond}
 use mathlib.Core.Logic.{inl, inr, ⊎-elim}
 use Prim.Native.Nat.{ℕ, zero, suc, _+_, _-_, _*_, _<_, _≤_}
 use native.Mathlib.Nat.{div-add-mod, mod-lt, div-eq-of-lt}
 use native.Mathlib.Omega.{arith}
-use lib.Dec.{eqb, ltb}
+use lib.Dec.{ltb}
 use lib.IntN.{ℤ, pos, negsuc, _+ℤ_}
 use lib.ListN.{length, getD, replicate}
 use lib.Signed.{_≤ℤ_}
 use Rattle.std.proofs.shelf.Counted.{length-map-counting, getD-map-counting}
 use Rattle.std.proofs.shelf.Lists.{length-replicate}
 use Rattle.std.proofs.shelf.Signed.{ints}
-use Rattle.std.proofs.shelf.Tests.{cases-lt, cond-true, cond-false, lt-ltb, le-ltb, eqb-true, eqb-false, and-parts, not-true}
+use Rattle.std.proofs.shelf.Tests.{cases-lt, cond-true, cond-false, lt-ltb, le-ltb}
 use Rattle.std.specs.declared.option.Option.{Option}
 use Rattle.std.specs.declared.option.Option.the-variants.{Some, None}
 use Rattle.std.specs.declared.result.Result.{Result}
@@ -22,27 +22,15 @@ use Rattle.ring.specs.Sizes.{Sized, make-checked, Checked}
 use Rattle.ring.specs.Model.{idle, adding, Model}
 use Rattle.ring.specs.Meaning.{New, NoPairs, AllPairs, Made, MadeEmpty, MadeFull}
 use Rattle.ring.proofs.Entries.{getD-same}
-use Rattle.ring.proofs.Options.{some-value, some-none}
+use Rattle.ring.proofs.Options.{some-none}
 use Rattle.ring.proofs.Scans.{one-if}
 use Rattle.ring.proofs.Sizes.{checked, sized-low, sized-high}
 use Rattle.ring.proofs.Tickets as tickets
 use Rattle.scq_table.specs.declared.Stage.the-variants.{Idle}
 use Rattle.scq_table.specs.Table.{cycle, slot, word-cycle, index, bottom, join, top, Memory, word, State, stage, new-ring, new-words, made, empty, full}
-use Rattle.scq_table.specs.Stands.{Current, Blank, pair, writes, brings, holds, is-some, Fits, Does, Left, Shared, overtaken, spoilt, Charged, holders, Sound, Stands}
+use Rattle.scq_table.specs.Stands.{Blank, pair, writes, brings, holds, is-some, Fits, Does, Left, Shared, overtaken, spoilt, Charged, holders, Sound, Stands}
 use Rattle.scq_table.proofs.Words.{join-cycle, join-index, bottom-low}
-use Rattle.scq_table.proofs.Lone.{pair-there}
-
-module _ (m : Memory) (t : ℕ) where
-  abbrev here : Bool
-  here = eqb (word-cycle (m .places) (word m t)) (cycle (m .places) t) && not (eqb (index (m .places) (word m t)) (bottom (m .places)))
-
-  pair-is : (i : ℕ) → pair m t ≡ Some i → Current m t × (Blank m (word m t) → ⊥) × (index (m .places) (word m t) ≡ i)
-  pair-is i e = go here refl
-    where
-      go : (b : Bool) → here ≡ b → Current m t × (Blank m (word m t) → ⊥) × (index (m .places) (word m t) ≡ i)
-      go true h = let p = and-parts _ _ h in
-          (eqb-true _ _ (p .0), eqb-false _ _ (not-true _ (p .1)), some-value _ _ (sym (cond-true here _ _ h) ∙ e))
-      go false h = absurd (some-none i (sym e ∙ cond-false here _ _ h))
+use Rattle.scq_table.proofs.Pairs.{pair-there, pair-is}
 
 all-idle : (s : ℕ) → getD (replicate 64 Idle) s Idle ≡ Idle
 all-idle s = getD-same 64 s Idle

@@ -39,12 +39,14 @@ module _ (q : State) (m : Model) (h : Stands q m) (s : ℕ) (here : s < q .stati
       there : pair mem t ≡ Some i
       there = sym (h .pairs t) ∙ p
 
-      held : t < mem .head → (r : ℕ) × ((r ≡ s → ⊥) × Holds m r t)
+      held : t < mem .head → (r : ℕ) × (r ≡ s → ⊥) × Holds m r t
       held l =
           let r = pair-held mem (q .stations) (stage q) (h .charge) (h .sound) t i there l in
-          (r .0,
-           ((λ e. some-none t (sym (r .1) ∙ (ap (λ x. live (stage q x)) e ∙ gone))),
-            holds-does mem (stage q (r .0)) (m .doing (r .0)) t (h .does (r .0)) (live-holds (stage q (r .0)) t (r .1))))
+          (
+            r .0,
+            (λ e. some-none t (sym (r .1) ∙ (ap (λ x. live (stage q x)) e ∙ gone))),
+            holds-does mem (stage q (r .0)) (m .doing (r .0)) t (h .does (r .0)) (live-holds (stage q (r .0)) t (r .1)),
+          )
 
   -- from step st₀ to step st, with Head at h', Tail at t' and Threshold at z'
   module _ (st₀ st : Stage) (at : stage q s ≡ st₀) (h' t' : ℕ) (z' : ℤ) (charge' : ℕ → ℕ) where
