@@ -6,7 +6,7 @@ use native.Mathlib.Omega.{arith}
 use Rattle.std.proofs.shelf.Tests.{cases-eq, cases-lt}
 use Rattle.std.specs.declared.option.Option.the-variants.{Some, None}
 use Rattle.ring.proofs.Entries.{put, put-same, put-other}
-use Rattle.ring.proofs.Options.{some-value, some-none}
+use Rattle.ring.proofs.Options.{some-value, some-none, some-both}
 use Rattle.ring.proofs.Tickets.{slots-differ}
 use Rattle.scq_table.specs.declared.Stage.{Stage}
 use Rattle.scq_table.specs.declared.Stage.the-variants.{A1, A2}
@@ -118,7 +118,7 @@ module _ (m : Memory) (k : ℕ) (at : ℕ → Stage) (charge : ℕ → ℕ) (h :
         (λ o. let e = before t o in
         subst (Item ticketed at' t) (sym e) (still t (charge t) (h .charged .from-item t a o (omega arith))))
         (λ g. let e : t ≡ m .tail = omega arith in
-        inr (has-now at at' s (A2 i (m .tail)) mine others brings (t, with-ticket t) (ap Some (pairs (sym e) (sym (at-end t e))))))
+        inr (has-now at at' s (A2 i (m .tail)) mine others brings (t, with-ticket t) (some-both (sym e) (sym (at-end t e)))))
         (cases-lt t (m .tail));
     from-older = λ t u j a b e x. ⊎-elim
         (λ l. ⊎-elim
@@ -128,6 +128,3 @@ module _ (m : Memory) (k : ℕ) (at : ℕ → Stage) (charge : ℕ → ℕ) (h :
         (λ g. absurd (omega (arith, at-end t (omega arith), small)))
         (cases-lt t (m .tail));
   }
-    where
-      pairs : {x y z w : ℕ} → x ≡ z → y ≡ w → _≡_ {A = ℕ × ℕ} (x, y) (z, w)
-      pairs p q = λ j. (p j, q j)

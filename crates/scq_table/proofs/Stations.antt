@@ -15,7 +15,7 @@ use Rattle.scq_table.specs.Table.{index, Memory, word}
 use Rattle.scq_table.specs.Stands.{writes, brings, swaps, closes, holds, live, behind, Fits, Does, Current, Blank, Seen, Unspoilt}
 
 -- where there is no register, nothing is in it
-none : {X : Type 0} (x : X) {A : Type 0} → None ≡ Some x → A
+pub none : {X : Type 0} (x : X) {A : Type 0} → None ≡ Some x → A
 none x e = absurd (some-none x (sym e))
 
 pub live-holds : (st : Stage) (x : ℕ) → live st ≡ Some x → holds st ≡ Some x
