@@ -10,5 +10,6 @@ mod Marks
 mod Lone
 mod Built
 mod Rows
+mod Begins
 mod Makes
 pub mod Meaning
