@@ -1,17 +1,14 @@
 -- A begin-add and a begin-take do what a ring's may.
 use mathlib.Core.Path.{_≡_, refl, sym, _∙_, ap, subst}
 use mathlib.Core.Bool.{true, false, not}
-use mathlib.Core.Logic.{_⊎_, inl, inr, ⊎-elim}
-use Prim.Native.Nat.{ℕ, _+_, _*_, _<_, _≤_}
+use mathlib.Core.Logic.{inr, ⊎-elim}
+use Prim.Native.Nat.{ℕ, _*_, _<_}
 use native.Mathlib.Nat.{mod-lt, mod-eq-of-lt}
 use native.Mathlib.Omega.{arith}
 use lib.Dec.{eqb, ltb}
-use lib.IntN.{pos, _+ℤ_}
 use lib.ListN.{getD}
-use lib.Signed.{_≤ℤ_}
 use Rattle.std.proofs.shelf.Signed.{ints}
 use Rattle.std.proofs.shelf.Tests.{cond-both, eqb-true, eq-eqb, ltb-true, ltb-false, and-parts, and-cases, both-ways, not-true, not-false, cases-lt}
-use Rattle.std.specs.declared.option.Option.{Option}
 use Rattle.std.specs.declared.option.Option.the-variants.{Some, None}
 use Rattle.ring.specs.Model.{Doing, idle, adding, seeking, Model, Outside}
 use Rattle.ring.specs.Meaning.{AddRefused, TakeRefused, AddBegun, TakeBegun}
@@ -20,7 +17,7 @@ use Rattle.ring.proofs.Options.{some-value, some-none}
 use Rattle.ring.proofs.Scans.{any-found, any-from, one-if}
 use Rattle.scq_table.specs.declared.Stage.{Stage}
 use Rattle.scq_table.specs.declared.Stage.the-variants.{Idle, A1, A2, A3, A4, A5, A6, T1, T2, T3, T4, T5, T6, T7, T8, T9, T10, T11}
-use Rattle.scq_table.specs.Table.{slot, index, Memory, word, State, stage, moved, is-idle, is-adding, is-there, is-outside, adds, takes}
+use Rattle.scq_table.specs.Table.{slot, index, Memory, word, State, stage, is-idle, is-adding, is-there, is-outside, adds, takes}
 use Rattle.scq_table.specs.Stands.{pair, writes, brings, swaps, closes, holds, live, behind, is-some, Fits, Does, Stands}
 use Rattle.scq_table.proofs.Pairs.{pair-is, home}
 use Rattle.scq_table.proofs.Stations.{adding-writes, idle-only}
