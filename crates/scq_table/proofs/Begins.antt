@@ -101,6 +101,10 @@ module _ (q : State) (m : Model) (h : Stands q m) where
   abbrev mem : Memory
   mem = q .memory
 
+  -- no station is to write index i, and no pair has it
+  abbrev Fresh : ℕ → Type 0
+  Fresh i = ((r : ℕ) → writes (stage q r) ≡ Some i → ⊥) × ((t : ℕ) → pair mem t ≡ Some i → ⊥)
+
   -- what it is for an index to be outside, by the words and the stations
 
   module _ (i : ℕ) (out : is-outside q i ≡ true) where
@@ -149,8 +153,7 @@ module _ (q : State) (m : Model) (h : Stands q m) where
 
     -- a first step, at which the station has no ticket
     keeps : (l : s < q .stations) (st : Stage) → stage q s ≡ Idle → Fits mem st → brings st ≡ None → swaps st ≡ None → holds st ≡ None →
-        ((i : ℕ) → writes st ≡ Some i → ((r : ℕ) → writes (stage q r) ≡ Some i → ⊥) × ((t : ℕ) → pair mem t ≡ Some i → ⊥)) →
-        Kept-with q m h s l mem st (h .charge)
+        ((i : ℕ) → writes st ≡ Some i → Fresh i) → Kept-with q m h s l mem st (h .charge)
     keeps l st at fits no-item no-swap no-ticket new =
         marks-keep mem (q .stations) (stage q) (h .charge) (h .sound) s l (mem .head) (mem .tail) (mem .threshold) (at' q m h s l mem st) st (h .charge)
         (stage-mine q m h s l mem st) (stage-other q m h s l mem st) (record {
@@ -181,7 +184,7 @@ means-add q s i m h =
       outside q m h i o,
       begins q m h s (ltb-true _ _ c) (A1 i) (adding i (m .add-mark)) at
           (keeps q m h s (ltb-true _ _ c) (A1 i) at (ltb-true _ _ l) refl refl refl
-          (λ j w. subst (λ x. ((r : ℕ) → writes (stage q r) ≡ Some x → ⊥) × ((t : ℕ) → pair (q .memory) t ≡ Some x → ⊥)) (some-value i j w) (nobody q m h i o, unpaired q m h i o)))
+          (λ j w. subst (Fresh q m h) (some-value i j w) (nobody q m h i o, unpaired q m h i o)))
           (m .add-mark, omega (arith, h .adds-at), refl),
     ))
     (λ o. AddRefused.not-outside refl (here q m h s c) (was-idle q m h s d) (small l) (not-outside q m h i (ltb-true _ _ l) o)))
