@@ -11,5 +11,7 @@ mod Lone
 mod Built
 mod Rows
 mod Adds
+mod Takes
+mod Begins
 mod Makes
 pub mod Meaning

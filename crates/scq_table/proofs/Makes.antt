@@ -19,7 +19,7 @@ use Rattle.std.specs.declared.result.Result.{Result}
 use Rattle.std.specs.declared.result.Result.the-variants.{Ok, Err}
 use Rattle.ring.specs.declared.Refusal.{Refusal}
 use Rattle.ring.specs.Sizes.{Sized, make-checked, Checked}
-use Rattle.ring.specs.Model.{idle, adding, Model}
+use Rattle.ring.specs.Model.{idle, Model}
 use Rattle.ring.specs.Meaning.{New, NoPairs, AllPairs, Made, MadeEmpty, MadeFull}
 use Rattle.ring.proofs.Entries.{getD-same}
 use Rattle.ring.proofs.Options.{some-none}
@@ -31,6 +31,7 @@ use Rattle.scq_table.specs.Table.{cycle, slot, word-cycle, index, bottom, join
 use Rattle.scq_table.specs.Stands.{Blank, pair, writes, brings, holds, is-some, Fits, Does, Left, Shared, overtaken, spoilt, Charged, holders, Sound, Stands}
 use Rattle.scq_table.proofs.Words.{join-cycle, join-index, bottom-low}
 use Rattle.scq_table.proofs.Pairs.{pair-there, pair-is}
+use Rattle.scq_table.proofs.Built.{each-once}
 
 all-idle : (s : ℕ) → getD (replicate 64 Idle) s Idle ≡ Idle
 all-idle s = getD-same 64 s Idle
@@ -38,9 +39,6 @@ all-idle s = getD-same 64 s Idle
 none-holds : (k : ℕ) → holders k (λ s. getD (replicate 64 Idle) s Idle) ≡ 0
 none-holds zero = refl
 none-holds (suc k) = omega (arith, ap (λ st. one-if (is-some (holds st))) (all-idle k), none-holds k)
-
-idle-adds-none : (i f : ℕ) → idle ≡ adding i f → ⊥
-idle-adds-none i f e = let z : _≡_ {A = ℕ} 0 1 = cc in omega arith
 
 -- a ring of which no call has been made, with index j under ticket 2n + j for j below c
 module _ (n k l c t : ℕ) (z : ℤ) (low : c ≤ n) (end : t ≡ 2 * n + c) (high : z ≤ℤ top n)
@@ -189,13 +187,7 @@ module _ (n k l c t : ℕ) (z : ℤ) (low : c ≤ n) (end : t ≡ 2 * n + c) (hi
       idle-all = λ s. refl;
       add-low = omega arith;
       take-low = omega arith;
-      indices = record {
-        pair-below = λ u i e. omega (arith, pair-new u i e);
-        added-below = λ s i f e. absurd (idle-adds-none i f e);
-        one-pair = new-shared .one-pair;
-        one-adder = λ s r i f g e o. absurd (idle-adds-none i f e);
-        not-both = λ u s i f e o. idle-adds-none i f o;
-      };
+      indices = each-once q new new-stands;
     }
 
   -- the indices in pairs are those below c
