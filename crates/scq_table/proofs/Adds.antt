@@ -117,7 +117,7 @@ module _ (q : State) (m : Model) (h : Stands q m) (s : ℕ) (here : s < q .stati
       others : (r : ℕ) → (r ≡ s → ⊥) → stage (moved q s mem (A1 i)) r ≡ stage q r
       others = stage-other q m h s here mem (A1 i)
 
-  turn-a1 : (i : ℕ) → stage q s ≡ A1 i → Turned Stands m s (carried q s (step mem (q .limit) (A1 i)))
+  pub turn-a1 : (i : ℕ) → stage q s ≡ A1 i → Turned Stands m s (carried q s (step mem (q .limit) (A1 i)))
   turn-a1 i at = cond-both (eqb (mem .tail) (q .limit)) _ _ (λ r. Turned Stands m s (carried q s r))
       (λ c. TurnRefused.at-limit refl (omega (arith, h .stations)) (subst (AtLimit m) (sym (d .2)) (h .adds-at ∙ (eqb-true _ _ c ∙ sym (h .limit)))))
       (λ c. add-row (A1 i) st at i (d .0) (d .2) (mem .tail + 1) (with-ticket mem (q .stations) (stage q) (h .charge) sound s next others i at (stage-mine q m h s here m' st))
@@ -140,7 +140,7 @@ module _ (q : State) (m : Model) (h : Stands q m) (s : ℕ) (here : s < q .stati
       others : (r : ℕ) → (r ≡ s → ⊥) → next r ≡ stage q r
       others = stage-other q m h s here m' st
 
-  turn-a2 : (i t : ℕ) → stage q s ≡ A2 i t → Turned Stands m s (carried q s (step mem (q .limit) (A2 i t)))
+  pub turn-a2 : (i t : ℕ) → stage q s ≡ A2 i t → Turned Stands m s (carried q s (step mem (q .limit) (A2 i t)))
   turn-a2 i t at = cond-both (ltb (word-cycle (mem .places) w) (cycle (mem .places) t) && eqb (index (mem .places) w) (bottom (mem .places))) _ _ (λ r. Turned Stands m s (carried q s r))
       (λ c. cond-both (eqb (safe (mem .places) w) 1) _ _ (λ r. Turned Stands m s (carried q s r))
       (λ e. add-quiet (A2 i t) (A4 i t w) at i (d .0) (d .2) (seen c) refl refl refl refl refl refl
@@ -173,7 +173,7 @@ module _ (q : State) (m : Model) (h : Stands q m) (s : ℕ) (here : s < q .stati
       covered : (ltb (word-cycle (mem .places) w) (cycle (mem .places) t) && eqb (index (mem .places) w) (bottom (mem .places))) ≡ false → mem .head ≤ t → Blank mem w → ⊥
       covered c high b = both-ways _ c (and-from _ _ (lt-ltb _ _ (blank-older mem (sound .shared) t high b)) (eq-eqb _ _ b))
 
-  turn-a3 : (i t e : ℕ) → stage q s ≡ A3 i t e → Turned Stands m s (carried q s (step mem (q .limit) (A3 i t e)))
+  pub turn-a3 : (i t e : ℕ) → stage q s ≡ A3 i t e → Turned Stands m s (carried q s (step mem (q .limit) (A3 i t e)))
   turn-a3 i t e at = cond-both (leb (mem .head) t) _ _ (λ r. Turned Stands m s (carried q s r))
       (λ c. let high = leb-true (mem .head) t c in
       add-quiet (A3 i t e) (A4 i t e) at i (d .0) (d .2) p refl refl refl refl refl refl
@@ -305,7 +305,7 @@ module _ (q : State) (m : Model) (h : Stands q m) (s : ℕ) (here : s < q .stati
       takes = TakeMark.stays (sym (h .takes-at));
     })
 
-  turn-a4 : (i t e : ℕ) → stage q s ≡ A4 i t e → Turned Stands m s (carried q s (step mem (q .limit) (A4 i t e)))
+  pub turn-a4 : (i t e : ℕ) → stage q s ≡ A4 i t e → Turned Stands m s (carried q s (step mem (q .limit) (A4 i t e)))
   turn-a4 i t e at = cond-both (eqb (word mem t) e) _ _ (λ r. Turned Stands m s (carried q s r))
       (λ c. written i t e at (eqb-true _ _ c))
       (λ c. add-quiet (A4 i t e) (A2 i t) at i (own .0) (own .2) (f .0, f .1) refl refl refl refl refl refl
@@ -355,7 +355,7 @@ module _ (q : State) (m : Model) (h : Stands q m) (s : ℕ) (here : s < q .stati
   closed t m' de l same = subst (λ x. Goes m s x Added (then q m h s here Added m' Idle idle)) (sym de)
       (CloseGoes.ends refl (put-same (m .doing) s idle) (λ x. same x ∙ sym (h .pairs x)) l)
 
-  turn-a5 : (t : ℕ) → stage q s ≡ A5 t → Turned Stands m s (carried q s (step mem (q .limit) (A5 t)))
+  pub turn-a5 : (t : ℕ) → stage q s ≡ A5 t → Turned Stands m s (carried q s (step mem (q .limit) (A5 t)))
   turn-a5 t at = cond-both (eqZ (mem .threshold) (top (mem .places))) _ _ (λ r. Turned Stands m s (carried q s r))
       (λ c. let at-top = eqZ-true _ _ c in
       shift q m h s here (A5 t) Idle at (mem .head) (mem .tail) (mem .threshold) (h .charge) Added idle
@@ -372,7 +372,7 @@ module _ (q : State) (m : Model) (h : Stands q m) (s : ℕ) (here : s < q .stati
       low : t < mem .tail
       low = fits-at (A5 t) at
 
-  turn-a6 : (t : ℕ) → stage q s ≡ A6 t → Turned Stands m s (carried q s (step mem (q .limit) (A6 t)))
+  pub turn-a6 : (t : ℕ) → stage q s ≡ A6 t → Turned Stands m s (carried q s (step mem (q .limit) (A6 t)))
   turn-a6 t at = shift q m h s here (A6 t) Idle at (mem .head) (mem .tail) (top (mem .places)) (h .charge) Added idle
       (close-shift t (A6 t) Idle at (top (mem .places)) (sound .shared .threshold-high) (≤ℤ-refl _) tt refl refl refl refl refl refl
       (λ x j y a z. inr (topped (with-threshold mem (top (mem .places))) x j y)))

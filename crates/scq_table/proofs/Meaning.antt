@@ -8,6 +8,7 @@ use Rattle.std.specs.declared.result.Result.the-variants.{Ok, Err}
 use Rattle.ring.specs.Meaning.{Kept, HasMeaning}
 use Rattle.scq_table.specs.Table.{Row, State, stage, step, carried, is-idle, is-outside, empty, full, adds, takes, turns}
 use Rattle.scq_table.specs.Stands.{Stands}
+use Rattle.scq_table.proofs.Takes.{means-turn}
 use Rattle.scq_table.proofs.Begins.{means-add, means-take}
 use Rattle.scq_table.proofs.Makes.{means-empty, means-full}
 
@@ -46,5 +47,5 @@ table-means = record {
   take-kept = refused-take;
   take-means = means-take;
   turn-kept = refused-turn;
-  turn-means = ?;
+  turn-means = means-turn;
 }
