@@ -3,6 +3,7 @@
 ghost use Rattle.ring.specs.Meaning.{HasMeaning};
 ghost use Rattle.scq_table.specs.Table.{State, empty, full, adds, takes, turns};
 ghost use Rattle.scq_table.specs.Stands.{Stands};
+ghost use Rattle.scq_table.specs.Example.{Mid-add-stands};
 
 // Where a station's call stands: the step that its next turn makes, with the station's own registers.
 // A1 to A6 add an index, T1 to T11 take one.
@@ -49,4 +50,10 @@ pub enum Stage {
 // Whatever calls come, in whatever order, the table does what a ring may do.
 pub fn table_has_the_meaning()
     ensures { λ _. ⌜ HasMeaning State Stands empty full adds takes turns ⌝ }
+{}
+
+// A ring of one place whose add has written its word, and has not yet stored Threshold, stands for a
+// model with the pair under ticket 2.
+pub fn mid_add_stands()
+    ensures { λ _. ⌜ Mid-add-stands 2 ⌝ }
 {}
