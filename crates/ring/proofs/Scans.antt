@@ -5,7 +5,7 @@ use mathlib.Core.Logic.{⊎-elim}
 use Prim.Native.Nat.{ℕ, zero, suc, _+_, _<_, _≤_}
 use native.Mathlib.Omega.{arith}
 use native.Mathlib.Numerals.{add-one}
-use Rattle.std.proofs.shelf.Tests.{cases-eq, cond-both, or-from}
+use Rattle.std.proofs.shelf.Tests.{cases-eq, or-from}
 use Rattle.std.proofs.shelf.Ways.{decides-below-or}
 use Rattle.std.specs.Orderings.{Decides}
 use Rattle.ring.specs.Scans.{any-below, count-below}

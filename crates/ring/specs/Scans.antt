@@ -4,7 +4,7 @@
 -- count-below      how many numbers below c pass it
 --
 -- Assumes nothing.
-use mathlib.Core.Bool.{Bool, true, false, cond, _||_}
+use mathlib.Core.Bool.{Bool, false, cond, _||_}
 use Prim.Native.Nat.{ℕ, zero, suc, _+_}
 
 abbrev pub any-below : ℕ → (ℕ → Bool) → Bool

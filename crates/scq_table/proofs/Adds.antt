@@ -1,8 +1,8 @@
 -- The rows of an add do what a ring may do.
 use mathlib.Core.Path.{_≡_, refl, sym, _∙_, ap, subst}
-use mathlib.Core.Bool.{true, false, cond, _&&_}
+use mathlib.Core.Bool.{true, false, _&&_}
 use mathlib.Core.Logic.{_⊎_, inl, inr, ⊎-elim}
-use Prim.Native.Nat.{ℕ, _+_, _*_, _<_, _≤_}
+use Prim.Native.Nat.{ℕ, _+_, _<_, _≤_}
 use native.Mathlib.Omega.{arith}
 use lib.Dec.{eqb, leb, ltb}
 use lib.IntN.{ℤ, pos, negsuc, _+ℤ_}
@@ -25,7 +25,7 @@ use Rattle.scq_table.proofs.Stations.{none, writes-low, live-holds, holds-does
 use Rattle.scq_table.proofs.Moves.{had, has-still}
 use Rattle.scq_table.proofs.Window.{blank-older, window}
 use Rattle.scq_table.proofs.Charges.{charged-less, item-back, item-on, with-ticket, charged-ticket}
-use Rattle.scq_table.proofs.Older.{without-ticket, charged-older}
+use Rattle.scq_table.proofs.Older.{charged-older}
 use Rattle.scq_table.proofs.Writes.{filled-before, filled-after, filled-rest, filled-from, filled-shared, filled-fits, filled-dead-on}
 use Rattle.scq_table.proofs.Lone.{Sooner, a1-a2, a2-a3, a2-a4, a2-a1, a3-a4, a3-a1, a4-a2, a4-a5, a5-a6, a5-ends, a6-ends}
 use Rattle.scq_table.proofs.Built.{stage-mine, stage-other, then, row}

@@ -1,21 +1,18 @@
 -- The numbers of the tickets from Head to Tail, as items come and go.
-use mathlib.Core.Path.{_≡_, refl, sym, _∙_, ap, subst}
+use mathlib.Core.Path.{_≡_, sym, _∙_, ap, subst}
 use mathlib.Core.Logic.{_⊎_, inl, inr, ⊎-elim}
-use Prim.Native.Nat.{ℕ, _+_, _*_, _<_, _≤_}
+use Prim.Native.Nat.{ℕ, _+_, _<_, _≤_}
 use native.Mathlib.Omega.{arith}
-use Rattle.std.proofs.shelf.Tests.{cases-eq, cases-lt}
+use Rattle.std.proofs.shelf.Tests.{cases-lt}
 use Rattle.std.specs.declared.option.Option.the-variants.{Some, None}
 use Rattle.ring.proofs.Entries.{put, put-same, put-other}
 use Rattle.ring.proofs.Options.{some-value, some-none, some-both}
-use Rattle.ring.proofs.Tickets.{slots-differ}
 use Rattle.scq_table.specs.declared.Stage.{Stage}
 use Rattle.scq_table.specs.declared.Stage.the-variants.{A1, A2}
-use Rattle.scq_table.specs.Table.{slot, index, Memory, word, with-tail}
-use Rattle.scq_table.specs.Stands.{Blank, pair, writes, brings, Item, Charged, Sound}
-use Rattle.scq_table.proofs.Pairs.{home}
+use Rattle.scq_table.specs.Table.{slot, Memory, with-tail}
+use Rattle.scq_table.specs.Stands.{pair, writes, brings, Item, Charged, Sound}
 use Rattle.scq_table.proofs.Stations.{brings-writes, brings-low, writes-low}
 use Rattle.scq_table.proofs.Moves.{had, has-still, has-now}
-use Rattle.scq_table.proofs.Window.{some-place, home-pair, window}
 
 -- no ticket from Head to Tail
 pub charged-none : (m : Memory) (at : ℕ → Stage) (charge : ℕ → ℕ) → m .tail ≤ m .head → Charged m at charge

@@ -1,14 +1,14 @@
 -- A turn that leaves the words: it may move Head, Tail or Threshold.
-use mathlib.Core.Path.{_≡_, refl, sym, _∙_, ap, subst}
-use mathlib.Core.Logic.{_⊎_, inl, inr, ⊎-elim}
+use mathlib.Core.Path.{_≡_, refl}
+use mathlib.Core.Logic.{_⊎_, inl, ⊎-elim}
 use Prim.Native.Nat.{ℕ, _+_, _<_, _≤_}
 use native.Mathlib.Omega.{arith}
 use lib.IntN.{ℤ, pos, _+ℤ_}
 use lib.Signed.{_≤ℤ_}
-use Rattle.std.specs.declared.option.Option.the-variants.{Some, None}
+use Rattle.std.specs.declared.option.Option.the-variants.{Some}
 use Rattle.ring.proofs.Scans.{one-if}
 use Rattle.scq_table.specs.declared.Stage.{Stage}
-use Rattle.scq_table.specs.Table.{slot, safe, top, Memory, word}
+use Rattle.scq_table.specs.Table.{safe, top, Memory, word}
 use Rattle.scq_table.specs.Stands.{pair, writes, swaps, closes, holds, live, behind, is-some, Fits, Shared, Dead, Charged, holders, Sound}
 use Rattle.scq_table.proofs.Stations.{changed, fits-on}
 use Rattle.scq_table.proofs.Moves.{had, Keeps}

@@ -2,7 +2,6 @@
 use mathlib.Core.Path.{_≡_, refl, sym, _∙_, ap, subst}
 use mathlib.Core.Logic.{_⊎_, inl, inr, ⊎-elim}
 use Prim.Native.Nat.{ℕ, _+_, _<_, _≤_}
-use native.Mathlib.Omega.{arith}
 use lib.IntN.{ℤ, pos, _+ℤ_}
 use lib.Signed.{_≤ℤ_}
 use Rattle.std.proofs.shelf.Tests.{cases-lt}
@@ -16,14 +15,14 @@ use Rattle.ring.proofs.Options.{some-none}
 use Rattle.ring.proofs.Scans.{one-if}
 use Rattle.scq_table.specs.declared.Stage.{Stage}
 use Rattle.scq_table.specs.Table.{safe, top, Memory, word, State, stage, moved}
-use Rattle.scq_table.specs.Stands.{pair, writes, brings, swaps, closes, holds, live, behind, is-some, Fits, Does, Dead, Charged, holders, Sound, Stands}
+use Rattle.scq_table.specs.Stands.{pair, writes, brings, swaps, closes, holds, live, behind, is-some, Fits, Does, Dead, Charged, holders, Stands}
 use Rattle.scq_table.proofs.Stations.{live-holds, holds-does, closes-does, changed}
 use Rattle.scq_table.proofs.Moves.{has-now}
 use Rattle.scq_table.proofs.Window.{pair-held}
 use Rattle.scq_table.proofs.Charges.{charged-less, item-back, item-on}
-use Rattle.scq_table.proofs.Marks.{Marks, marks-keep}
+use Rattle.scq_table.proofs.Marks.{marks-keep}
 use Rattle.scq_table.proofs.Lone.{Sooner}
-use Rattle.scq_table.proofs.Built.{stage-mine, stage-other, then, Row-shows, row}
+use Rattle.scq_table.proofs.Built.{stage-mine, stage-other, then, row}
 
 module _ (q : State) (m : Model) (h : Stands q m) (s : ℕ) (here : s < q .stations) where
   abbrev mem : Memory

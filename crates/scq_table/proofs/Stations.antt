@@ -5,7 +5,6 @@ use lib.IntN.{ℤ}
 use mathlib.Core.Bool.{Bool, true, false}
 use Prim.Native.Nat.{ℕ, _<_, _≤_}
 use native.Mathlib.Omega.{arith}
-use Rattle.std.specs.declared.option.Option.{Option}
 use Rattle.std.specs.declared.option.Option.the-variants.{Some, None}
 use Rattle.ring.specs.Model.{Doing, idle, adding, closing, seeking}
 use Rattle.ring.proofs.Options.{some-value, some-none}

@@ -2,14 +2,14 @@
 use mathlib.Core.Path.{_≡_, refl, sym, _∙_, ap, subst}
 use mathlib.Core.Bool.{Bool, true, false}
 use mathlib.Core.Logic.{_⊎_, inl, inr, ⊎-elim}
-use Prim.Native.Nat.{ℕ, _+_, _*_, _<_, _≤_}
+use Prim.Native.Nat.{ℕ, _+_, _<_, _≤_}
 use native.Mathlib.Omega.{arith}
 use lib.Bits.{bitOr}
 use lib.Dec.{eqb, leb, ltb}
 use lib.IntN.{ℤ, pos, _+ℤ_, _-ℤ_}
-use lib.Signed.{_≤ℤ_, ltZ, leZ, ≤ℤ-refl}
+use lib.Signed.{_≤ℤ_, ltZ, leZ}
 use Rattle.std.proofs.shelf.Signed.{ints}
-use Rattle.std.proofs.shelf.Tests.{cond-both, eqb-true, eqb-false, leb-true, leb-false, ltb-true, ltb-false, cases-eq, both-ways}
+use Rattle.std.proofs.shelf.Tests.{cond-both, eqb-true, eqb-false, leb-true, leb-false, ltb-true, ltb-false, cases-eq}
 use Rattle.std.specs.declared.option.Option.{Option}
 use Rattle.std.specs.declared.option.Option.the-variants.{Some, None}
 use Rattle.ring.specs.declared.Progress.{Progress}
@@ -18,11 +18,11 @@ use Rattle.ring.specs.Model.{Doing, idle, seeking, Model}
 use Rattle.ring.specs.Meaning.{NothingUnder, Leaves, Ticket, AllHeld, SeekGoes, Goes, AddMark, TakeMark, AtLimit, TurnRefused, Turned}
 use Rattle.ring.proofs.Entries.{put-same, put-other}
 use Rattle.ring.proofs.Leaving.{left-outside}
-use Rattle.ring.proofs.Options.{some-value, some-none}
+use Rattle.ring.proofs.Options.{some-value}
 use Rattle.ring.proofs.Scans.{one-if, count-some}
 use Rattle.scq_table.specs.declared.Stage.{Stage}
 use Rattle.scq_table.specs.declared.Stage.the-variants.{Idle, A1, A2, A3, A4, A5, A6, T1, T2, T3, T4, T5, T6, T7, T8, T9, T10, T11}
-use Rattle.scq_table.specs.Table.{cycle, word-cycle, safe, index, bottom, join, top, spoilt, Memory, word, with-tail, with-head, with-word, with-threshold, step, State, stage, moved, carried, turns}
+use Rattle.scq_table.specs.Table.{cycle, word-cycle, safe, index, bottom, join, top, Memory, word, with-tail, with-head, with-word, with-threshold, step, State, stage, moved, carried, turns}
 use Rattle.scq_table.specs.Stands.{Current, Blank, pair, writes, brings, swaps, closes, holds, live, behind, is-some, Fits, Does, Shared, Dead, Charged, holders, Sound, Stands}
 use Rattle.scq_table.proofs.Words.{join-cycle, join-safe, join-index, safe-low, index-low, bottom-low, or-cycle, or-safe, or-index}
 use Rattle.scq_table.proofs.Pairs.{pair-there, pair-blank}

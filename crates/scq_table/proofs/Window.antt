@@ -10,7 +10,7 @@ use Rattle.ring.proofs.Pigeonhole.{pigeonhole}
 use Rattle.ring.proofs.Sizes.{sized-low}
 use Rattle.ring.proofs.Tickets.{later-cycle}
 use Rattle.scq_table.specs.declared.Stage.{Stage}
-use Rattle.scq_table.specs.Table.{cycle, slot, word-cycle, index, Memory, word}
+use Rattle.scq_table.specs.Table.{cycle, word-cycle, index, Memory, word}
 use Rattle.scq_table.specs.Stands.{Current, Blank, pair, holds, live, Shared, Dead, Sound}
 use Rattle.scq_table.proofs.Pairs.{same-word, pair-is, pair-there, home}
 use Rattle.scq_table.proofs.Stations.{live-holds}

@@ -2,7 +2,7 @@
 use mathlib.Core.Path.{_≡_, refl, sym, _∙_, ap, subst}
 use mathlib.Core.Bool.{cond, not, _&&_}
 use mathlib.Core.Logic.{_⊎_, inl, inr, ⊎-elim}
-use Prim.Native.Nat.{ℕ, _+_, _*_, _<_, _≤_}
+use Prim.Native.Nat.{ℕ, _*_, _<_, _≤_}
 use native.Mathlib.Nat.{mod-lt}
 use native.Mathlib.Omega.{arith}
 use lib.Dec.{eqb}
@@ -14,7 +14,7 @@ use Rattle.ring.proofs.Tickets.{same-ticket, later-cycle}
 use Rattle.scq_table.specs.declared.Stage.{Stage}
 use Rattle.scq_table.specs.Table.{cycle, slot, word-cycle, safe, index, bottom, Memory, word, with-word}
 use Rattle.scq_table.specs.Stands.{Current, Blank, Seen, Unspoilt, pair, swaps, holds, Fits, Shared, Dead}
-use Rattle.scq_table.proofs.Pairs.{same-word, pair-there, pair-elsewhere, pair-blank, pair-is, one-current}
+use Rattle.scq_table.proofs.Pairs.{same-word, pair-there, pair-elsewhere, pair-blank, one-current}
 use Rattle.scq_table.proofs.Stations.{swaps-seen, fits-on}
 use Rattle.scq_table.proofs.Window.{some-place}
 
