@@ -14,7 +14,8 @@ use Rattle.ring.specs.Meaning.{AddRefused, TakeRefused, AddBegun, TakeBegun}
 use Rattle.ring.proofs.Tickets.{join-cycle, join-index}
 use Rattle.ncq_table.specs.declared.Stage.{Stage}
 use Rattle.ncq_table.specs.declared.Stage.the-variants.{Idle, N1, N2, N3, N4, N5, N6, N7, N8}
-use Rattle.ncq_table.specs.Table.{cycle, slot, index, join, Memory, word, State, stage, moved, is-idle, is-adding, is-there, is-outside, adds, takes}
+use Rattle.ring.specs.Tables.{moved}
+use Rattle.ncq_table.specs.Table.{cycle, slot, index, join, Memory, word, State, stage, is-idle, is-adding, is-there, is-outside, adds, takes}
 use Rattle.ncq_table.specs.Stands.{Absent, writes, Does, Stands}
 use Rattle.ring.proofs.Options.{some-value, some-none}
 use Rattle.ncq_table.proofs.Pairs.{pair-there, pair-is}

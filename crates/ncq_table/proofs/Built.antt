@@ -14,7 +14,8 @@ use Rattle.ring.specs.Meaning.{Goes, AddMark, TakeMark, MayTurn, Turned, Begun}
 use Rattle.ring.proofs.Entries.{put, put-same, put-other}
 use Rattle.ncq_table.specs.declared.Stage.{Stage}
 use Rattle.ncq_table.specs.declared.Stage.the-variants.{Idle}
-use Rattle.ncq_table.specs.Table.{cycle, index, Memory, word, State, stage, moved}
+use Rattle.ring.specs.Tables.{moved}
+use Rattle.ncq_table.specs.Table.{cycle, index, Memory, word, State, stage}
 use Rattle.ncq_table.specs.Stands.{pair, Absent, Fits, writes, Does, left, Shared, Stands}
 use Rattle.ncq_table.proofs.Pairs.{pair-is}
 use Rattle.ncq_table.proofs.Window.{filled-low}

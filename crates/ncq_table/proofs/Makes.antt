@@ -21,7 +21,8 @@ use Rattle.ring.specs.Meaning.{New, MadeEmpty, MadeFull}
 use Rattle.ring.proofs.Entries.{getD-same}
 use Rattle.ring.proofs.Sizes.{checked, sized-low, sized-high}
 use Rattle.ncq_table.specs.declared.Stage.the-variants.{Idle}
-use Rattle.ncq_table.specs.Table.{cycle, slot, index, join, Memory, word, State, new-ring, full-words, made, empty, full}
+use Rattle.ring.specs.Tables.{made}
+use Rattle.ncq_table.specs.Table.{cycle, slot, index, join, Memory, word, State, new-ring, full-words, empty, full}
 use Rattle.ncq_table.specs.Stands.{pair, Fits, writes, Does, left, Shared, Stands}
 use Rattle.ring.proofs.Options.{some-none}
 use Rattle.ncq_table.proofs.Pairs.{pair-there, pair-passed, pair-cycle}

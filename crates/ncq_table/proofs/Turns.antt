@@ -16,7 +16,8 @@ use Rattle.ring.proofs.Entries.{put-same, put-other}
 use Rattle.ring.proofs.Leaving.{left-outside}
 use Rattle.ncq_table.specs.declared.Stage.{Stage}
 use Rattle.ncq_table.specs.declared.Stage.the-variants.{Idle, N1, N2, N3, N4, N5, N6, N7, N8}
-use Rattle.ncq_table.specs.Table.{cycle, index, join, Memory, word, move-tail, with-head, with-word, step, State, stage, moved, carried, turns}
+use Rattle.ring.specs.Tables.{moved, carried}
+use Rattle.ncq_table.specs.Table.{cycle, index, join, Memory, word, move-tail, with-head, with-word, step, State, stage, turns}
 use Rattle.ncq_table.specs.Stands.{Fits, writes, Does, left, Shared, Stands}
 use Rattle.ring.proofs.Options.{some-none}
 use Rattle.ncq_table.proofs.Pairs.{pair-there, pair-is}

@@ -20,12 +20,13 @@ use Rattle.std.specs.Iters.{counting}
 use Rattle.std.specs.declared.option.Option.the-variants.{Some, None}
 use Rattle.std.specs.declared.result.Result.{Result}
 use Rattle.std.specs.declared.result.Result.the-variants.{Ok, Err}
-use Rattle.ring.specs.declared.Progress.{Progress}
 use Rattle.ring.specs.declared.Progress.the-variants.{Going, Added, Taken}
 use Rattle.ring.specs.declared.Refusal.{Refusal}
-use Rattle.ring.specs.declared.Refusal.the-variants.{NoStation, Busy, NoCall, AtLimit, NoIndex, NotOutside}
+use Rattle.ring.specs.declared.Refusal.the-variants.{NoCall, AtLimit}
 use Rattle.ring.specs.Sizes.{make-checked}
 use Rattle.ring.specs.Scans.{any-below}
+use Rattle.ring.specs.Tables as tables
+use Rattle.ring.specs.Tables.{stage-of, turned, add-begun, take-begun, made}
 use Rattle.ncq_table.specs.declared.Stage.{Stage}
 use Rattle.ncq_table.specs.declared.Stage.the-variants.{Idle, N1, N2, N3, N4, N5, N6, N7, N8}
 
@@ -74,7 +75,7 @@ with-word m t w = record { places = m .places; head = m .head; tail = m .tail; w
 
 -- the answer of a turn, the memory after it and the station's next step, or a refusal
 abbrev pub Row : Type 0
-Row = Result (Progress × Memory × Stage) Refusal
+Row = tables.Row Memory Stage
 
 -- N2, the word e loaded at ticket t: of t's cycle, N3; of the cycle before, N4; otherwise N1
 abbrev pub n2 : Memory → ℕ → ℕ → ℕ → Row
@@ -108,30 +109,18 @@ step m l (N8 h e) = cond (eqb (m .head) h)
 
 -- rings
 
-pub record State : Type 0 where
-  pub stations : ℕ
-  -- the ticket limit
-  pub limit : ℕ
-  pub memory : Memory
-  pub stages : List Stage
+abbrev pub State : Type 0
+State = tables.State Memory Stage
 
 abbrev pub Outcome : Type 0
-Outcome = Result Progress Refusal × State
+Outcome = tables.Outcome Memory Stage
 
 -- where station s's call stands
 abbrev pub stage : State → ℕ → Stage
-stage q s = getD (q .stages) s Idle
-
--- the ring with another memory and another step of station s
-abbrev pub moved : State → ℕ → Memory → Stage → State
-moved q s m st = record { stations = q .stations; limit = q .limit; memory = m; stages = set (q .stages) s st }
-
-abbrev pub carried : State → ℕ → Row → Outcome
-carried q s (Ok (a, m, st)) = (Ok a, moved q s m st)
-carried q s (Err e) = (Err e, q)
+stage = stage-of Idle
 
 abbrev pub turns : State → ℕ → Outcome
-turns q s = cond (ltb s (q .stations)) (carried q s (step (q .memory) (q .limit) (stage q s))) (Err NoStation, q)
+turns = turned Idle step
 
 -- begins
 
@@ -170,20 +159,10 @@ is-outside q i =
     not (any-below (q .stations) (λ s. is-adding i (stage q s)))
 
 abbrev pub adds : State → ℕ → ℕ → Outcome
-adds q s i =
-    cond (ltb s (q .stations))
-    (cond (is-idle (stage q s))
-    (cond (ltb i (q .memory .places))
-    (cond (is-outside q i) (Ok Going, moved q s (q .memory) (N1 i)) (Err NotOutside, q))
-    (Err NoIndex, q))
-    (Err Busy, q))
-    (Err NoStation, q)
+adds q s i = add-begun Idle is-idle (q .memory .places) (is-outside q i) (N1 i) q s i
 
 abbrev pub takes : State → ℕ → Outcome
-takes q s =
-    cond (ltb s (q .stations))
-    (cond (is-idle (stage q s)) (Ok Going, moved q s (q .memory) N6) (Err Busy, q))
-    (Err NoStation, q)
+takes = take-begun Idle is-idle N6
 
 -- makes
 
@@ -198,10 +177,6 @@ new-ring n k l h ws = record {
 -- the words of a full ring: of cycle 0 and index j at slot j
 unfoldable pub full-words : ℕ → List ℕ
 full-words n = map (λ j. cond (ltb j n) (join n 0 j) 0) (counting 0 64)
-
-abbrev pub made : Result (Unit {0}) Refusal → State → Result State Refusal
-made (Ok u) q = Ok q
-made (Err e) q = Err e
 
 abbrev pub empty : ℕ → ℕ → ℕ → Result State Refusal
 empty n k l = made (make-checked n k l) (new-ring n k l n (replicate 64 0))

@@ -5,3 +5,4 @@ pub mod Meaning
 pub mod Runs
 pub mod Scans
 pub mod Cells
+pub mod Tables

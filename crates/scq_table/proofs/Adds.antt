@@ -18,7 +18,8 @@ use Rattle.ring.proofs.Options.{some-value, some-none, some-both}
 use Rattle.ring.proofs.Scans.{one-if, count-fewer}
 use Rattle.scq_table.specs.declared.Stage.{Stage}
 use Rattle.scq_table.specs.declared.Stage.the-variants.{Idle, A1, A2, A3, A4, A5, A6}
-use Rattle.scq_table.specs.Table.{cycle, word-cycle, safe, index, bottom, join, top, eqZ, Memory, word, with-tail, with-word, with-threshold, step, State, stage, moved, carried}
+use Rattle.ring.specs.Tables.{moved, carried}
+use Rattle.scq_table.specs.Table.{cycle, word-cycle, safe, index, bottom, join, top, eqZ, Memory, word, with-tail, with-word, with-threshold, step, State, stage}
 use Rattle.scq_table.specs.Stands.{Blank, pair, writes, brings, swaps, closes, holds, live, behind, is-some, Fits, Does, Dead, Item, Charged, holders, Sound, Stands}
 use Rattle.scq_table.proofs.Words.{join-cycle, join-index}
 use Rattle.scq_table.proofs.Stations.{none, writes-low, live-holds, holds-does}
@@ -26,7 +27,7 @@ use Rattle.scq_table.proofs.Moves.{had, has-still}
 use Rattle.scq_table.proofs.Window.{blank-older, window}
 use Rattle.scq_table.proofs.Charges.{charged-less, item-back, item-on, with-ticket, charged-ticket}
 use Rattle.scq_table.proofs.Older.{charged-older}
-use Rattle.scq_table.proofs.Writes.{filled-before, filled-after, filled-rest, filled-from, filled-shared, filled-fits, filled-dead-on}
+use Rattle.scq_table.proofs.Filled.{filled-before, filled-after, filled-rest, filled-from, filled-shared, filled-fits, filled-dead-on}
 use Rattle.scq_table.proofs.Lone.{Sooner, a1-a2, a2-a3, a2-a4, a2-a1, a3-a4, a3-a1, a4-a2, a4-a5, a5-a6, a5-ends, a6-ends}
 use Rattle.scq_table.proofs.Built.{stage-mine, stage-other, then, row}
 use Rattle.scq_table.proofs.Rows.{Goal, charged-on, Shift, shift}

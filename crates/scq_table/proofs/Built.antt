@@ -12,7 +12,8 @@ use Rattle.ring.specs.Meaning.{Goes, AddMark, TakeMark, MayTurn, Turned, Begun}
 use Rattle.ring.proofs.Entries.{put, put-same, put-other}
 use Rattle.scq_table.specs.declared.Stage.{Stage}
 use Rattle.scq_table.specs.declared.Stage.the-variants.{Idle}
-use Rattle.scq_table.specs.Table.{Memory, State, stage, moved}
+use Rattle.ring.specs.Tables.{moved}
+use Rattle.scq_table.specs.Table.{Memory, State, stage}
 use Rattle.scq_table.specs.Stands.{pair, writes, Does, Left, Sound, Stands}
 use Rattle.scq_table.proofs.Pairs.{pair-is}
 use Rattle.scq_table.proofs.Stations.{adding-writes, writes-low, does-on}

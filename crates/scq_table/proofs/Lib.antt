@@ -6,6 +6,9 @@ mod Window
 mod Charges
 mod Older
 mod Writes
+mod Emptied
+mod Marked
+mod Filled
 mod Marks
 mod Lone
 mod Built

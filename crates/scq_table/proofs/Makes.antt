@@ -27,7 +27,8 @@ use Rattle.ring.proofs.Scans.{one-if}
 use Rattle.ring.proofs.Sizes.{checked, sized-low, sized-high}
 use Rattle.ring.proofs.Tickets as tickets
 use Rattle.scq_table.specs.declared.Stage.the-variants.{Idle}
-use Rattle.scq_table.specs.Table.{cycle, slot, word-cycle, index, bottom, join, top, Memory, word, State, stage, new-ring, new-words, made, empty, full}
+use Rattle.ring.specs.Tables.{made}
+use Rattle.scq_table.specs.Table.{cycle, slot, word-cycle, index, bottom, join, top, Memory, word, State, stage, new-ring, new-words, empty, full}
 use Rattle.scq_table.specs.Stands.{Blank, pair, writes, brings, holds, is-some, Fits, Does, Left, Shared, overtaken, spoilt, Charged, holders, Sound, Stands}
 use Rattle.scq_table.proofs.Words.{join-cycle, join-index, bottom-low}
 use Rattle.scq_table.proofs.Pairs.{pair-there, pair-is}

@@ -14,7 +14,8 @@ use Rattle.ring.specs.Meaning.{AllHeld, Goes, AddMark, TakeMark, Turned}
 use Rattle.ring.proofs.Options.{some-none}
 use Rattle.ring.proofs.Scans.{one-if}
 use Rattle.scq_table.specs.declared.Stage.{Stage}
-use Rattle.scq_table.specs.Table.{safe, top, Memory, word, State, stage, moved}
+use Rattle.ring.specs.Tables.{moved}
+use Rattle.scq_table.specs.Table.{safe, top, Memory, word, State, stage}
 use Rattle.scq_table.specs.Stands.{pair, writes, brings, swaps, closes, holds, live, behind, is-some, Fits, Does, Dead, Charged, holders, Stands}
 use Rattle.scq_table.proofs.Stations.{live-holds, holds-does, closes-does, changed}
 use Rattle.scq_table.proofs.Moves.{has-now}

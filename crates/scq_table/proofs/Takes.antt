@@ -22,7 +22,8 @@ use Rattle.ring.proofs.Options.{some-value}
 use Rattle.ring.proofs.Scans.{one-if, count-some}
 use Rattle.scq_table.specs.declared.Stage.{Stage}
 use Rattle.scq_table.specs.declared.Stage.the-variants.{Idle, A1, A2, A3, A4, A5, A6, T1, T2, T3, T4, T5, T6, T7, T8, T9, T10, T11}
-use Rattle.scq_table.specs.Table.{cycle, word-cycle, safe, index, bottom, join, top, Memory, word, with-tail, with-head, with-word, with-threshold, step, State, stage, moved, carried, turns}
+use Rattle.ring.specs.Tables.{moved, carried}
+use Rattle.scq_table.specs.Table.{cycle, word-cycle, safe, index, bottom, join, top, Memory, word, with-tail, with-head, with-word, with-threshold, step, State, stage, turns}
 use Rattle.scq_table.specs.Stands.{Current, Blank, pair, writes, brings, swaps, closes, holds, live, behind, is-some, Fits, Does, Shared, Dead, Charged, holders, Sound, Stands}
 use Rattle.scq_table.proofs.Words.{join-cycle, join-safe, join-index, safe-low, index-low, bottom-low, or-cycle, or-safe, or-index}
 use Rattle.scq_table.proofs.Pairs.{pair-there, pair-blank}
@@ -30,7 +31,8 @@ use Rattle.scq_table.proofs.Stations.{none, changed}
 use Rattle.scq_table.proofs.Moves.{had}
 use Rattle.scq_table.proofs.Window.{some-place, given-up}
 use Rattle.scq_table.proofs.Charges.{charged-none, charged-less, item-back, item-on}
-use Rattle.scq_table.proofs.Writes.{emptied-pair, emptied-none, emptied-other, emptied-shared, emptied-fits, emptied-dead, emptied-dead-on, marked-pair, marked-shared, marked-fits, marked-dead, marked-dead-on}
+use Rattle.scq_table.proofs.Emptied.{emptied-pair, emptied-none, emptied-other, emptied-shared, emptied-fits, emptied-dead, emptied-dead-on}
+use Rattle.scq_table.proofs.Marked.{marked-pair, marked-shared, marked-fits, marked-dead, marked-dead-on}
 use Rattle.scq_table.proofs.Lone.{Sooner, t1-t2, t2-t3, t3-t4, t3-t5, t3-t6, t5-t6, t5-t3, t6-t7, t6-t11, t7-t8, t7-t10, t8-t9, t9-t10, t9-t7, t11-t2, t1-ends, t4-ends, t10-ends, t11-ends}
 use Rattle.scq_table.proofs.Built.{stage-mine, stage-other, Kept-with, then, row, each-once}
 use Rattle.scq_table.proofs.Rows.{Goal, all-held, charged-on, Shift, shift}

@@ -24,12 +24,13 @@ use Rattle.std.specs.Iters.{counting}
 use Rattle.std.specs.declared.option.Option.the-variants.{Some, None}
 use Rattle.std.specs.declared.result.Result.{Result}
 use Rattle.std.specs.declared.result.Result.the-variants.{Ok, Err}
-use Rattle.ring.specs.declared.Progress.{Progress}
 use Rattle.ring.specs.declared.Progress.the-variants.{Going, Added, Taken}
 use Rattle.ring.specs.declared.Refusal.{Refusal}
-use Rattle.ring.specs.declared.Refusal.the-variants.{NoStation, Busy, NoCall, AtLimit, NoIndex, NotOutside}
+use Rattle.ring.specs.declared.Refusal.the-variants.{NoCall, AtLimit}
 use Rattle.ring.specs.Sizes.{make-checked}
 use Rattle.ring.specs.Scans.{any-below}
+use Rattle.ring.specs.Tables as tables
+use Rattle.ring.specs.Tables.{stage-of, turned, add-begun, take-begun, made}
 use Rattle.scq_table.specs.declared.Stage.{Stage}
 use Rattle.scq_table.specs.declared.Stage.the-variants.{Idle, A1, A2, A3, A4, A5, A6, T1, T2, T3, T4, T5, T6, T7, T8, T9, T10, T11}
 
@@ -104,7 +105,7 @@ with-word m t w = record { places = m .places; head = m .head; tail = m .tail; t
 
 -- the answer of a turn, the memory after it and the station's next step, or a refusal
 abbrev pub Row : Type 0
-Row = Result (Progress × Memory × Stage) Refusal
+Row = tables.Row Memory Stage
 
 -- A2, the word e loaded at ticket t: A1 if its cycle is not below t's or its index is not bottom;
 -- otherwise A4 if it is safe, A3 if not
@@ -157,30 +158,18 @@ step m l (T11 h) = cond (leZ (m .threshold) (pos 0))
 
 -- rings
 
-pub record State : Type 0 where
-  pub stations : ℕ
-  -- the ticket limit
-  pub limit : ℕ
-  pub memory : Memory
-  pub stages : List Stage
+abbrev pub State : Type 0
+State = tables.State Memory Stage
 
 abbrev pub Outcome : Type 0
-Outcome = Result Progress Refusal × State
+Outcome = tables.Outcome Memory Stage
 
 -- where station s's call stands
 abbrev pub stage : State → ℕ → Stage
-stage q s = getD (q .stages) s Idle
-
--- the ring with another memory and another step of station s
-abbrev pub moved : State → ℕ → Memory → Stage → State
-moved q s m st = record { stations = q .stations; limit = q .limit; memory = m; stages = set (q .stages) s st }
-
-abbrev pub carried : State → ℕ → Row → Outcome
-carried q s (Ok (a, m, st)) = (Ok a, moved q s m st)
-carried q s (Err e) = (Err e, q)
+stage = stage-of Idle
 
 abbrev pub turns : State → ℕ → Outcome
-turns q s = cond (ltb s (q .stations)) (carried q s (step (q .memory) (q .limit) (stage q s))) (Err NoStation, q)
+turns = turned Idle step
 
 -- begins
 
@@ -235,20 +224,10 @@ is-outside q i =
     not (any-below (q .stations) (λ s. is-adding i (stage q s)))
 
 abbrev pub adds : State → ℕ → ℕ → Outcome
-adds q s i =
-    cond (ltb s (q .stations))
-    (cond (is-idle (stage q s))
-    (cond (ltb i (q .memory .places))
-    (cond (is-outside q i) (Ok Going, moved q s (q .memory) (A1 i)) (Err NotOutside, q))
-    (Err NoIndex, q))
-    (Err Busy, q))
-    (Err NoStation, q)
+adds q s i = add-begun Idle is-idle (q .memory .places) (is-outside q i) (A1 i) q s i
 
 abbrev pub takes : State → ℕ → Outcome
-takes q s =
-    cond (ltb s (q .stations))
-    (cond (is-idle (stage q s)) (Ok Going, moved q s (q .memory) T1) (Err Busy, q))
-    (Err NoStation, q)
+takes = take-begun Idle is-idle T1
 
 -- makes
 
@@ -265,10 +244,6 @@ new-ring n k l t z ws = record {
 -- safe and empty
 unfoldable pub new-words : ℕ → ℕ → List ℕ
 new-words n c = map (λ j. cond (ltb j c) (join n 1 1 j) (join n 0 1 (bottom n))) (counting 0 128)
-
-abbrev pub made : Result (Unit {0}) Refusal → State → Result State Refusal
-made (Ok u) q = Ok q
-made (Err e) q = Err e
 
 abbrev pub empty : ℕ → ℕ → ℕ → Result State Refusal
 empty n k l = made (make-checked n k l) (new-ring n k l (2 * n) (negsuc 0) (new-words n 0))
