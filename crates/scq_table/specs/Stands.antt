@@ -5,8 +5,7 @@
 -- more is the number of its lone turns.
 --
 -- pair             the index under a ticket
--- writes, brings, swaps, closes, holds, live, behind
---                  what a station that stands at a step has in its registers, by what it is for
+-- Registers        what a station that stands at a step has in its registers, by what it is for
 -- Fits             what those registers say of the memory
 -- Does             what a station that stands at a step does in the model
 -- Left             how many lone turns a call can still have, at the most
@@ -47,154 +46,75 @@ pair m t = cond
     (eqb (word-cycle (m .places) (word m t)) (cycle (m .places) t) && not (eqb (index (m .places) (word m t)) (bottom (m .places))))
     (Some (index (m .places) (word m t))) None
 
--- what a station has
+-- what a station has in its registers, by what it is for
+pub record Registers : Type 0 where
+  -- the index that it is still to write
+  pub writes : Option ℕ
+  -- the ticket under which it is to write, with the index
+  pub brings : Option (ℕ × ℕ)
+  -- the ticket and the old word of the compare-and-set that would write it
+  pub swaps : Option (ℕ × ℕ)
+  -- the ticket whose pair it has written, where its add has not ended
+  pub closes : Option ℕ
+  -- the ticket that its take holds
+  pub holds : Option ℕ
+  -- that ticket, where it has not yet been given up
+  pub live : Option ℕ
+  -- that ticket, where Tail has not yet been seen past it
+  pub behind : Option ℕ
 
--- the index that it is still to write
+abbrev nothing : Registers
+nothing = record { writes = None; brings = None; swaps = None; closes = None; holds = None; live = None; behind = None }
+
+abbrev adder : ℕ → Option (ℕ × ℕ) → Option (ℕ × ℕ) → Registers
+adder i ticket swap = record { writes = Some i; brings = ticket; swaps = swap; closes = None; holds = None; live = None; behind = None }
+
+abbrev closer : ℕ → Registers
+closer t = record { writes = None; brings = None; swaps = None; closes = Some t; holds = None; live = None; behind = None }
+
+abbrev taker : ℕ → Option ℕ → Option ℕ → Registers
+taker h alive lag = record { writes = None; brings = None; swaps = None; closes = None; holds = Some h; live = alive; behind = lag }
+
+abbrev registers : Stage → Registers
+registers Idle = nothing
+registers (A1 i) = adder i None None
+registers (A2 i t) = adder i (Some (t, i)) None
+registers (A3 i t e) = adder i (Some (t, i)) None
+registers (A4 i t e) = adder i (Some (t, i)) (Some (t, e))
+registers (A5 t) = closer t
+registers (A6 t) = closer t
+registers T1 = nothing
+registers T2 = nothing
+registers (T3 h) = taker h (Some h) (Some h)
+registers (T4 h e) = taker h (Some h) (Some h)
+registers (T5 h e) = taker h (Some h) (Some h)
+registers (T6 h) = taker h None (Some h)
+registers (T7 h u v) = taker h None (Some h)
+registers (T8 h) = taker h None (Some h)
+registers (T9 h v) = taker h None (Some h)
+registers (T10 h) = taker h None None
+registers (T11 h) = taker h None None
+
 abbrev pub writes : Stage → Option ℕ
-writes Idle = None
-writes (A1 i) = Some i
-writes (A2 i t) = Some i
-writes (A3 i t e) = Some i
-writes (A4 i t e) = Some i
-writes (A5 t) = None
-writes (A6 t) = None
-writes T1 = None
-writes T2 = None
-writes (T3 h) = None
-writes (T4 h e) = None
-writes (T5 h e) = None
-writes (T6 h) = None
-writes (T7 h u v) = None
-writes (T8 h) = None
-writes (T9 h v) = None
-writes (T10 h) = None
-writes (T11 h) = None
+writes st = registers st .writes
 
--- the ticket under which it is to write, with the index
 abbrev pub brings : Stage → Option (ℕ × ℕ)
-brings Idle = None
-brings (A1 i) = None
-brings (A2 i t) = Some (t, i)
-brings (A3 i t e) = Some (t, i)
-brings (A4 i t e) = Some (t, i)
-brings (A5 t) = None
-brings (A6 t) = None
-brings T1 = None
-brings T2 = None
-brings (T3 h) = None
-brings (T4 h e) = None
-brings (T5 h e) = None
-brings (T6 h) = None
-brings (T7 h u v) = None
-brings (T8 h) = None
-brings (T9 h v) = None
-brings (T10 h) = None
-brings (T11 h) = None
+brings st = registers st .brings
 
--- the ticket and the old word of the compare-and-set that would write it
 abbrev pub swaps : Stage → Option (ℕ × ℕ)
-swaps Idle = None
-swaps (A1 i) = None
-swaps (A2 i t) = None
-swaps (A3 i t e) = None
-swaps (A4 i t e) = Some (t, e)
-swaps (A5 t) = None
-swaps (A6 t) = None
-swaps T1 = None
-swaps T2 = None
-swaps (T3 h) = None
-swaps (T4 h e) = None
-swaps (T5 h e) = None
-swaps (T6 h) = None
-swaps (T7 h u v) = None
-swaps (T8 h) = None
-swaps (T9 h v) = None
-swaps (T10 h) = None
-swaps (T11 h) = None
+swaps st = registers st .swaps
 
--- the ticket whose pair it has written, where its add has not ended
 abbrev pub closes : Stage → Option ℕ
-closes Idle = None
-closes (A1 i) = None
-closes (A2 i t) = None
-closes (A3 i t e) = None
-closes (A4 i t e) = None
-closes (A5 t) = Some t
-closes (A6 t) = Some t
-closes T1 = None
-closes T2 = None
-closes (T3 h) = None
-closes (T4 h e) = None
-closes (T5 h e) = None
-closes (T6 h) = None
-closes (T7 h u v) = None
-closes (T8 h) = None
-closes (T9 h v) = None
-closes (T10 h) = None
-closes (T11 h) = None
+closes st = registers st .closes
 
--- the ticket that its take holds
 abbrev pub holds : Stage → Option ℕ
-holds Idle = None
-holds (A1 i) = None
-holds (A2 i t) = None
-holds (A3 i t e) = None
-holds (A4 i t e) = None
-holds (A5 t) = None
-holds (A6 t) = None
-holds T1 = None
-holds T2 = None
-holds (T3 h) = Some h
-holds (T4 h e) = Some h
-holds (T5 h e) = Some h
-holds (T6 h) = Some h
-holds (T7 h u v) = Some h
-holds (T8 h) = Some h
-holds (T9 h v) = Some h
-holds (T10 h) = Some h
-holds (T11 h) = Some h
+holds st = registers st .holds
 
--- the ticket that it holds and has not yet given up
 abbrev pub live : Stage → Option ℕ
-live Idle = None
-live (A1 i) = None
-live (A2 i t) = None
-live (A3 i t e) = None
-live (A4 i t e) = None
-live (A5 t) = None
-live (A6 t) = None
-live T1 = None
-live T2 = None
-live (T3 h) = Some h
-live (T4 h e) = Some h
-live (T5 h e) = Some h
-live (T6 h) = None
-live (T7 h u v) = None
-live (T8 h) = None
-live (T9 h v) = None
-live (T10 h) = None
-live (T11 h) = None
+live st = registers st .live
 
--- the ticket that it holds, where it has not yet seen Tail past it
 abbrev pub behind : Stage → Option ℕ
-behind Idle = None
-behind (A1 i) = None
-behind (A2 i t) = None
-behind (A3 i t e) = None
-behind (A4 i t e) = None
-behind (A5 t) = None
-behind (A6 t) = None
-behind T1 = None
-behind T2 = None
-behind (T3 h) = Some h
-behind (T4 h e) = Some h
-behind (T5 h e) = Some h
-behind (T6 h) = Some h
-behind (T7 h u v) = Some h
-behind (T8 h) = Some h
-behind (T9 h v) = Some h
-behind (T10 h) = None
-behind (T11 h) = None
+behind st = registers st .behind
 
 abbrev pub is-some : Option ℕ → Bool
 is-some None = false
