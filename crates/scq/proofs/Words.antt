@@ -6,6 +6,7 @@ use mathlib.Core.Logic.{⊎-elim}
 use Prim.Native.Nat.{ℕ, _+_, _*_, _/_, _^_, _<_, _≤_}
 use native.Mathlib.Nat.{zero-add, div-add-mod, mod-lt, mul-assoc, mul-le-mul-left, div-div-eq-div-mul}
 use native.Mathlib.Omega.{arith}
+use lib.Bits.{bitOr, or-lt}
 use lib.Dec.{eqb, ltb}
 use lib.ListN.{length, getD}
 use Rattle.std.specs.Iters.{counting}
@@ -46,6 +47,9 @@ new-words-low n c high j =
       (cond-both (ltb j c) (join n 1 1 j) (join n 0 1 (bottom n)) P (λ _. omega arith) (λ _. omega arith)))
     (λ ge. subst P (sym (getD-past (map (word-of-new n c) (counting 0 128)) j 0 (simp length-map-counting ge))) (omega arith))
     (cases-lt j 128)
+
+pub or-low : (v w : ℕ) → v < 2 ^ 40 → w < 2 ^ 40 → bitOr v w < 2 ^ 40
+or-low = or-lt 40
 
 -- a cell after a compare-and-set holds what it held or the new value
 pub swapped-keeps : (P : ℕ → Type 0) (cell old new : ℕ) (r : Bool) (last : ℕ) → (r, last) ≡ swapped cell old new → P cell → P new → P last

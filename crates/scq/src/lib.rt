@@ -6,7 +6,7 @@ ghost use Prim.Native.Nat.{_*_, _-_, _^_, _<_, _≤_};
 ghost use lib.Dec.{eqb, ltb};
 ghost use lib.IntN.{pos, negsuc, _+ℤ_};
 ghost use lib.ListN.{getD};
-ghost use lib.Signed.{_≤ℤ_};
+ghost use lib.Signed.{_≤ℤ_, leZ};
 ghost use Rattle.std.specs.declared.option.Option.the-variants.{Some, None};
 ghost use Rattle.ring.specs.Sizes.{Sized, Crewed, Limited};
 ghost use Rattle.ring.specs.Meaning.{viewed};
@@ -155,6 +155,13 @@ fn top(places: usize) -> i64
     ensures { λ r. ⌜ r ≡ table.top places ⌝ }
 {
     (3 * places - 1) as i64
+}
+
+// Whether a take that lowers this Threshold tries no further ticket.
+fn is_used_up(threshold: i64) -> bool
+    ensures { λ r. ⌜ r ≡ leZ threshold (pos 0) ⌝ }
+{
+    threshold <= 0
 }
 
 // Whether the word is empty and of a cycle before the ticket's.
@@ -503,7 +510,7 @@ impl Scq {
             Stage::T11 { .. } => {
                 let old = self.threshold;
                 self.threshold = old - 1;
-                if old <= 0 {
+                if is_used_up(old) {
                     *stage = Stage::Idle;
                     return Ok(Progress::Taken(None));
                 }

@@ -10,8 +10,8 @@ ghost-self c =
   (q .sized, (q .counted, (omega (arith, ints), (q .«words_low», (stages-set _ _ _ _ _ (q .«stages_low») (omega arith, omega arith, omega arith, omega arith),
     (ends _ _ _ _ (q .threshold) _ (omega arith) (c .in-T10 .is) refl (omega (arith, ints)) (q .«threshold_low»), tt))))))
 
-pub ghost-self-then-old-le0 : need.ghost-self-then-old-le0
-ghost-self-then-old-le0 c =
+pub ghost-self-then-is-used-up : need.ghost-self-then-is-used-up
+ghost-self-then-is-used-up c =
   let q = c .args .self .now in
   (q .sized, (q .counted, (omega (arith, ints), (q .«words_low», (stages-set _ _ _ _ _ (q .«stages_low») (omega arith, omega arith, omega arith, omega arith),
     (ends _ _ _ _ (q .threshold) _ (omega arith) (c .in-T11 .is) refl (omega (arith, ints)) (q .«threshold_low»), tt))))))

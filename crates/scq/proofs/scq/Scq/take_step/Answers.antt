@@ -1,12 +1,11 @@
 use mathlib.Core.Path.{refl}
 use Prim.Native.Nat.{_^_, _<_}
 use native.Mathlib.Omega.{arith}
-use lib.Bits.{or-lt}
 use Rattle.std.proofs.shelf.Signed.{ints}
 use borrow.Author.Needs.{needs}
 use lib.Seq.{set-getD}
 use Rattle.scq.proofs.Bounds.{low-at, moves, not-below, stages-set, words-set}
-use Rattle.scq.proofs.Words.{spoilt-low, swapped-keeps}
+use Rattle.scq.proofs.Words.{or-low, spoilt-low, swapped-keeps}
 use Rattle.scq.proofs.scq.Scq.take_step.Needs as need
 
 pub ghost-self : need.ghost-self
@@ -51,7 +50,7 @@ ghost-self-in-Greater c =
 pub ghost-self-in-T4 : need.ghost-self-in-T4
 ghost-self-in-T4 c =
   let q = c .args .self .now in
-  moves q (c .args .station) _ _ _ _ _ (q .counted) (words-set _ _ _ (q .«words_low») (or-lt 40 _ _ (q .«words_low» (c .slot-in-T4 .result)) (omega arith))) (c .in-T4 .is) (λ h. (omega arith, omega arith, omega arith, omega arith)) (omega arith)
+  moves q (c .args .station) _ _ _ _ _ (q .counted) (words-set _ _ _ (q .«words_low») (search (needs, or-low, q .«words_low» (c .slot-in-T4 .result)))) (c .in-T4 .is) (λ h. (omega arith, omega arith, omega arith, omega arith)) (omega arith)
 
 pub ghost-self-then-compare-and-set : need.ghost-self-then-compare-and-set
 ghost-self-then-compare-and-set c =
