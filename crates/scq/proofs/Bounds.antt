@@ -1,0 +1,78 @@
+-- A write within bounds keeps the bounds of all.
+use mathlib.Core.Path.{_≡_, refl, subst, sym, ap}
+use mathlib.Core.List.{List, [], _∷_}
+use mathlib.Core.Logic.{⊎-elim}
+use Prim.Native.Nat.{ℕ, zero, suc, _+_, _^_, _<_, _≤_}
+use native.Mathlib.Omega.{arith}
+use lib.IntN.{ℤ, pos, negsuc, _-ℤ_}
+use lib.ListN.{getD, replicate, set}
+use lib.Seq.{getD-set-other}
+use lib.Signed.{_≤ℤ_}
+use Rattle.std.proofs.shelf.Signed.{ints}
+use Rattle.std.proofs.shelf.Tests.{cases-lt}
+use Rattle.ring.proofs.Entries.{all-set}
+use Rattle.ring.proofs.Scans.{one-if, count-most, count-fewer, count-same, count-moved}
+use Rattle.scq_table.specs.declared.Stage.{Stage}
+use Rattle.scq_table.specs.declared.Stage.the-variants.{Idle}
+use Rattle.scq_table.specs.Table.{top}
+use Rattle.scq.specs.declared.scq.Scq.{Scq}
+use Rattle.scq.specs.Within.{is-failing, Low, LowStages, LowWords, failing, NotFarBelow}
+
+pub stages-set : (n l : ℕ) (stages : List Stage) (s : ℕ) (st : Stage) → LowStages n l stages → Low n l st → LowStages n l (set stages s st)
+stages-set n l stages s st = all-set (Low n l) stages s st Idle
+
+pub words-set : (words : List ℕ) (j w : ℕ) → LowWords words → w < 2 ^ 40 → LowWords (set words j w)
+words-set words j w = all-set (λ v. v < 2 ^ 40) words j w 0
+
+-- what is found where a value was set: that value, or nothing past the end
+found-set : {X : Type 0} (P : X → Type 0) (xs : List X) (i : ℕ) (x d : X) → P x → P d → P (getD (set xs i x) i d)
+found-set P [] i x d p q = q
+found-set P (y ∷ ys) zero x d p q = p
+found-set P (y ∷ ys) (suc i) x d p q = found-set P ys i x d p q
+
+-- the station that moves is counted where it was and where it is
+recount : (k : ℕ) (stages : List Stage) (s : ℕ) (st : Stage) → s < k →
+  failing k (set stages s st) + one-if (is-failing (getD stages s Idle)) ≤ failing k stages + one-if (is-failing st)
+recount k stages s st l =
+  let now = set stages s st in
+  omega (arith,
+    count-moved k (λ j. is-failing (getD now j Idle)) (λ j. is-failing (getD stages j Idle)) s l
+      (λ j d. ap is-failing (getD-set-other stages s j st Idle d)),
+    found-set (λ v. one-if (is-failing v) ≤ one-if (is-failing st)) stages s st Idle (omega arith) (omega arith))
+
+-- a station goes on, and is counted no more than before
+stays : (k : ℕ) (stages : List Stage) (s : ℕ) (st : Stage) (z : ℤ) → one-if (is-failing st) ≤ one-if (is-failing (getD stages s Idle)) →
+  NotFarBelow k stages z → NotFarBelow k (set stages s st) z
+stays k stages s st z h b = ⊎-elim
+  (λ l. omega (arith, ints, recount k stages s st l))
+  (λ l. omega (arith, ints, count-same k (λ j. is-failing (getD (set stages s st) j Idle)) (λ j. is-failing (getD stages j Idle))
+    (λ j m. ap is-failing (getD-set-other stages s j st Idle (λ e. omega arith)))))
+  (cases-lt s k)
+
+-- a take ends, and lowers Threshold
+pub ends : (k : ℕ) (stages : List Stage) (s : ℕ) (st : Stage) (z z' : ℤ) → s < k → getD stages s Idle ≡ st → one-if (is-failing st) ≡ 1 → z' ≡ z -ℤ pos 1 →
+  NotFarBelow k stages z → NotFarBelow k (set stages s Idle) z'
+ends k stages s st z z' l e h d b = omega (arith, ints, recount k stages s Idle l, ap (λ v. one-if (is-failing v)) e)
+
+-- as many stations as there are may lower a Threshold that is not below 0
+pub not-below : (k : ℕ) (stages : List Stage) (z : ℤ) → pos 0 ≤ℤ z → NotFarBelow k stages z
+not-below k stages z h = omega (arith, ints, count-most k (λ s. is-failing (getD stages s Idle)))
+
+abbrev Bounded : ℕ → ℕ → ℕ → ℕ → ℕ → ℤ → List ℕ → List Stage → Type 0
+Bounded n k l h t z words stages =
+  ((1 ≤ n) × (n ≤ 64) × (k ≤ 64) × (l ≤ 999999999)) × (((h ≤ l) × (t ≤ l)) × ((z ≤ℤ top n) × (LowWords words × (LowStages n l stages × (NotFarBelow k stages z × Unit {0})))))
+
+-- nobody takes from a new ring, and somebody may
+pub new-not-far-below : (k : ℕ) (z : ℤ) → 1 ≤ k → negsuc 0 ≤ℤ z → NotFarBelow k (replicate 64 Idle) z
+new-not-far-below k z some h = omega (arith, ints, count-fewer k (λ s. is-failing (getD (replicate 64 Idle) s Idle)) 0 (omega arith) refl)
+
+pub low-at : (q : Scq) (s : ℕ) (st : Stage) → getD (q .stages) s Idle ≡ st → Low (q .places) (q .limit) st
+low-at q s st e = subst (Low (q .places) (q .limit)) e (q .«stages_low» s)
+
+-- all the bounds of a ring whose station goes on, and whose Threshold stays
+pub moves : (q : Scq) (s : ℕ) (st st' : Stage) (h t : ℕ) (words : List ℕ) → (h ≤ q .limit) × (t ≤ q .limit) → LowWords words → getD (q .stages) s Idle ≡ st →
+  (Low (q .places) (q .limit) st → Low (q .places) (q .limit) st') → one-if (is-failing st') ≤ one-if (is-failing st) →
+  Bounded (q .places) (q .stations) (q .limit) h t (q .threshold) words (set (q .stages) s st')
+moves q s st st' h t words counted written e keeps f = (q .sized, (counted, (q .«threshold_high», (written,
+  (stages-set (q .places) (q .limit) (q .stages) s st' (q .«stages_low») (keeps (low-at q s st e)),
+    (stays (q .stations) (q .stages) s st' (q .threshold) (subst (λ v. one-if (is-failing st') ≤ one-if (is-failing v)) (sym e) f) (q .«threshold_low»), tt))))))
