@@ -16,7 +16,7 @@ use Rattle.scq_table.specs.declared.Stage.{Stage}
 use Rattle.scq_table.specs.declared.Stage.the-variants.{Idle}
 use Rattle.scq_table.specs.Table.{top}
 use Rattle.scq.specs.declared.scq.Scq.{Scq}
-use Rattle.scq.specs.Within.{is-failing, Low, LowStages, LowWords, failing, NotFarBelow}
+use Rattle.scq.specs.Within.{may-lower, Low, LowStages, LowWords, lowering, NotFarBelow}
 
 pub stages-set : (n l : ℕ) (stages : List Stage) (s : ℕ) (st : Stage) → LowStages n l stages → Low n l st → LowStages n l (set stages s st)
 stages-set n l stages s st = all-set (Low n l) stages s st Idle
@@ -32,31 +32,31 @@ found-set P (y ∷ ys) (suc i) x d p q = found-set P ys i x d p q
 
 -- the station that moves is counted where it was and where it is
 recount : (k : ℕ) (stages : List Stage) (s : ℕ) (st : Stage) → s < k →
-  failing k (set stages s st) + one-if (is-failing (getD stages s Idle)) ≤ failing k stages + one-if (is-failing st)
+  lowering k (set stages s st) + one-if (may-lower (getD stages s Idle)) ≤ lowering k stages + one-if (may-lower st)
 recount k stages s st l =
   let now = set stages s st in
   omega (arith,
-    count-moved k (λ j. is-failing (getD now j Idle)) (λ j. is-failing (getD stages j Idle)) s l
-      (λ j d. ap is-failing (getD-set-other stages s j st Idle d)),
-    found-set (λ v. one-if (is-failing v) ≤ one-if (is-failing st)) stages s st Idle (omega arith) (omega arith))
+    count-moved k (λ j. may-lower (getD now j Idle)) (λ j. may-lower (getD stages j Idle)) s l
+      (λ j d. ap may-lower (getD-set-other stages s j st Idle d)),
+    found-set (λ v. one-if (may-lower v) ≤ one-if (may-lower st)) stages s st Idle (omega arith) (omega arith))
 
 -- a station goes on, and is counted no more than before
-stays : (k : ℕ) (stages : List Stage) (s : ℕ) (st : Stage) (z : ℤ) → one-if (is-failing st) ≤ one-if (is-failing (getD stages s Idle)) →
+stays : (k : ℕ) (stages : List Stage) (s : ℕ) (st : Stage) (z : ℤ) → one-if (may-lower st) ≤ one-if (may-lower (getD stages s Idle)) →
   NotFarBelow k stages z → NotFarBelow k (set stages s st) z
 stays k stages s st z h b = ⊎-elim
   (λ l. omega (arith, ints, recount k stages s st l))
-  (λ l. omega (arith, ints, count-same k (λ j. is-failing (getD (set stages s st) j Idle)) (λ j. is-failing (getD stages j Idle))
-    (λ j m. ap is-failing (getD-set-other stages s j st Idle (λ e. omega arith)))))
+  (λ l. omega (arith, ints, count-same k (λ j. may-lower (getD (set stages s st) j Idle)) (λ j. may-lower (getD stages j Idle))
+    (λ j m. ap may-lower (getD-set-other stages s j st Idle (λ e. omega arith)))))
   (cases-lt s k)
 
 -- a take ends, and lowers Threshold
-pub ends : (k : ℕ) (stages : List Stage) (s : ℕ) (st : Stage) (z z' : ℤ) → s < k → getD stages s Idle ≡ st → one-if (is-failing st) ≡ 1 → z' ≡ z -ℤ pos 1 →
+pub ends : (k : ℕ) (stages : List Stage) (s : ℕ) (st : Stage) (z z' : ℤ) → s < k → getD stages s Idle ≡ st → one-if (may-lower st) ≡ 1 → z' ≡ z -ℤ pos 1 →
   NotFarBelow k stages z → NotFarBelow k (set stages s Idle) z'
-ends k stages s st z z' l e h d b = omega (arith, ints, recount k stages s Idle l, ap (λ v. one-if (is-failing v)) e)
+ends k stages s st z z' l e h d b = omega (arith, ints, recount k stages s Idle l, ap (λ v. one-if (may-lower v)) e)
 
 -- as many stations as there are may lower a Threshold that is not below 0
 pub not-below : (k : ℕ) (stages : List Stage) (z : ℤ) → pos 0 ≤ℤ z → NotFarBelow k stages z
-not-below k stages z h = omega (arith, ints, count-most k (λ s. is-failing (getD stages s Idle)))
+not-below k stages z h = omega (arith, ints, count-most k (λ s. may-lower (getD stages s Idle)))
 
 abbrev Bounded : ℕ → ℕ → ℕ → ℕ → ℕ → ℤ → List ℕ → List Stage → Type 0
 Bounded n k l h t z words stages =
@@ -64,15 +64,15 @@ Bounded n k l h t z words stages =
 
 -- nobody takes from a new ring, and somebody may
 pub new-not-far-below : (k : ℕ) (z : ℤ) → 1 ≤ k → negsuc 0 ≤ℤ z → NotFarBelow k (replicate 64 Idle) z
-new-not-far-below k z some h = omega (arith, ints, count-fewer k (λ s. is-failing (getD (replicate 64 Idle) s Idle)) 0 (omega arith) refl)
+new-not-far-below k z some h = omega (arith, ints, count-fewer k (λ s. may-lower (getD (replicate 64 Idle) s Idle)) 0 (omega arith) refl)
 
 pub low-at : (q : Scq) (s : ℕ) (st : Stage) → getD (q .stages) s Idle ≡ st → Low (q .places) (q .limit) st
 low-at q s st e = subst (Low (q .places) (q .limit)) e (q .«stages_low» s)
 
 -- all the bounds of a ring whose station goes on, and whose Threshold stays
 pub moves : (q : Scq) (s : ℕ) (st st' : Stage) (h t : ℕ) (words : List ℕ) → (h ≤ q .limit) × (t ≤ q .limit) → LowWords words → getD (q .stages) s Idle ≡ st →
-  (Low (q .places) (q .limit) st → Low (q .places) (q .limit) st') → one-if (is-failing st') ≤ one-if (is-failing st) →
+  (Low (q .places) (q .limit) st → Low (q .places) (q .limit) st') → one-if (may-lower st') ≤ one-if (may-lower st) →
   Bounded (q .places) (q .stations) (q .limit) h t (q .threshold) words (set (q .stages) s st')
 moves q s st st' h t words counted written e keeps f = (q .sized, (counted, (q .«threshold_high», (written,
   (stages-set (q .places) (q .limit) (q .stages) s st' (q .«stages_low») (keeps (low-at q s st e)),
-    (stays (q .stations) (q .stages) s st' (q .threshold) (subst (λ v. one-if (is-failing st') ≤ one-if (is-failing v)) (sym e) f) (q .«threshold_low»), tt))))))
+    (stays (q .stations) (q .stages) s st' (q .threshold) (subst (λ v. one-if (may-lower st') ≤ one-if (may-lower v)) (sym e) f) (q .«threshold_low»), tt))))))

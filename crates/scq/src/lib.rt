@@ -29,7 +29,6 @@ use ring::compare_and_set;
 use scq_table::Stage;
 use std::cmp::Ordering;
 
-
 pub impl Ring for Scq as ScqRing {
     ghost state = { State };
     ghost view = { view };
