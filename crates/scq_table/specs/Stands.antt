@@ -179,11 +179,12 @@ Does m (T11 h) d = SeeksFrom h (Some h) false d
 
 -- lone turns
 
+-- how often a take may still lower Threshold before it ends
 abbrev pub above-zero : ℤ → ℕ
 above-zero (pos a) = a
 above-zero (negsuc a) = 0
 
--- Tail comes to a ticket g, not below Head, at an empty slot, in r rounds of A1 and A2 at the most
+-- Tail comes to a ticket g, not below Head, at an empty slot, in r rounds of A1 to A3 at the most
 abbrev pub Rounds : Memory → ℕ → Type 0
 Rounds m r = (g : ℕ) × (m .head ≤ g) × (m .tail ≤ g) × Blank m (word m g) × (g + 1 ≤ m .tail + r)
 
@@ -257,7 +258,7 @@ holders k at = count-below k (λ s. is-some (holds (at s)))
 pub record Sound (m : Memory) (k : ℕ) (at : ℕ → Stage) (charge : ℕ → ℕ) : Type 0 where
   pub shared : Shared m
   pub crew : k ≤ m .places
-  -- nobody else takes part
+  -- only the k stations take part
   pub beyond : (s : ℕ) → k ≤ s → at s ≡ Idle
   pub fits : (s : ℕ) → Fits m (at s)
   -- no two stations are to write one index, and none that is in a pair
@@ -267,7 +268,7 @@ pub record Sound (m : Memory) (k : ℕ) (at : ℕ → Stage) (charge : ℕ → �
   pub one-holder : (s r t : ℕ) → holds (at s) ≡ Some t → holds (at r) ≡ Some t → s ≡ r
   -- a ticket that Head has passed is some station's, or no pair can be under it
   pub held-or-dead : (t : ℕ) → t < m .head → ((s : ℕ) × (live (at s) ≡ Some t)) ⊎ Dead m at t
-  -- where Head is before Tail, each ticket between is that of a station that is to move Tail past it
+  -- where Head has passed Tail, each ticket between is that of a station that is to move Tail past it
   pub caught-up : (t : ℕ) → m .tail ≤ t → t < m .head → (s : ℕ) × (behind (at s) ≡ Some t)
   pub charged : Charged m at charge
   -- a pair that Head has not passed is still to be closed, or Threshold allows for all the tickets
