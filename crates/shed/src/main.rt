@@ -12,6 +12,7 @@ use scq::Scq;
 use scq::ScqRing;
 use std::error::AnyError;
 
+use crate::shed::RefusedError;
 use crate::shed::Shed;
 use crate::shown::NcqShown;
 use crate::shown::ScqShown;

@@ -13,6 +13,7 @@ use std::fmt;
 
 use crate::PLACES;
 use crate::STATIONS;
+use crate::shown::ColumnsDisplay;
 use crate::shown::Shown;
 
 // a call ends within 16 lone turns for each place, and 16 more
@@ -37,7 +38,7 @@ impl fmt::Display for Refused as RefusedDisplay {
     }
 }
 
-impl Error for Refused as RefusedError {}
+pub impl Error for Refused as RefusedError {}
 
 // What the ring told of a call, with the number of the answer.
 #[derive(Clone, Copy)]

@@ -32,7 +32,7 @@ pub enum Columns {
     Scq { counters: Counters, word: Option<usize> },
 }
 
-impl fmt::Display for Columns as ColumnsDisplay {
+pub impl fmt::Display for Columns as ColumnsDisplay {
     fn fmt<W: fmt::Write>(&self, f: &mut fmt::Formatter<W>) -> fmt::Result {
         let Columns::Scq { counters, word } = *self else {
             return Ok(());
@@ -50,7 +50,7 @@ impl fmt::Display for Columns as ColumnsDisplay {
     }
 }
 
-impl Shown for Ncq as NcqShown {
+pub impl Shown for Ncq as NcqShown {
     fn headings() -> &'static str {
         ""
     }
@@ -79,7 +79,7 @@ impl Shown for Ncq as NcqShown {
     }
 }
 
-impl Shown for Scq as ScqShown {
+pub impl Shown for Scq as ScqShown {
     fn headings() -> &'static str {
         "head  tail  threshold  cycle  safe  index  "
     }
