@@ -3,18 +3,18 @@ use mathlib.Core.Path.{_≡_, refl, sym, subst, ap}
 use mathlib.Core.Bool.{Bool}
 use mathlib.Core.List.{List, map}
 use mathlib.Core.Logic.{⊎-elim}
-use Prim.Native.Nat.{ℕ, _+_, _*_, _/_, _^_, _<_, _≤_}
+use Prim.Native.Nat.{ℕ, _*_, _/_, _^_, _<_, _≤_}
 use native.Mathlib.Nat.{zero-add, div-add-mod, mod-lt, mul-assoc, mul-le-mul-left, div-div-eq-div-mul}
 use native.Mathlib.Omega.{arith}
 use lib.Bits.{bitOr, or-lt}
 use lib.Dec.{eqb, ltb}
 use lib.ListN.{length, getD}
 use Rattle.std.specs.Iters.{counting}
-use Rattle.std.proofs.shelf.Tests.{cases-lt, cond-both, ltb-true}
+use Rattle.std.proofs.shelf.Tests.{cases-lt, cond-both}
 use Rattle.std.proofs.shelf.Lists.{getD-past}
 use Rattle.std.proofs.shelf.Counted.{fill-by-all, getD-map-counting, length-map-counting}
 use Rattle.ring.specs.Cells.{swapped}
-use Rattle.scq_table.specs.Table.{cycle, word-cycle, safe, index, bottom, join, spoilt, new-words}
+use Rattle.scq_table.specs.Table.{cycle, safe, index, bottom, join, spoilt, new-words}
 use Rattle.scq.specs.Steps.{word-of-new}
 use Rattle.scq.specs.Within.{LowWords}
 
