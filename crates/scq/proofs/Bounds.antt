@@ -76,3 +76,9 @@ pub moves : (q : Scq) (s : ℕ) (st st' : Stage) (h t : ℕ) (words : List ℕ) 
 moves q s st st' h t words counted written e keeps f = (q .sized, (counted, (q .«threshold_high», (written,
   (stages-set (q .places) (q .limit) (q .stages) s st' (q .«stages_low») (keeps (low-at q s st e)),
     (stays (q .stations) (q .stages) s st' (q .threshold) (subst (λ v. one-if (may-lower st') ≤ one-if (may-lower v)) (sym e) f) (q .«threshold_low»), tt))))))
+
+-- nothing else changes
+pub steps : (q : Scq) (s : ℕ) (st st' : Stage) → getD (q .stages) s Idle ≡ st →
+  (Low (q .places) (q .limit) st → Low (q .places) (q .limit) st') → one-if (may-lower st') ≤ one-if (may-lower st) →
+  Bounded (q .places) (q .stations) (q .limit) (q .head) (q .tail) (q .threshold) (q .words) (set (q .stages) s st')
+steps q s st st' = moves q s st st' (q .head) (q .tail) (q .words) (q .counted) (q .«words_low»)

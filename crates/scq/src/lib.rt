@@ -1,9 +1,9 @@
 // SCQ, the scalable circular queue: a ring of indices whose stations make one memory operation a turn.
 
 ghost use mathlib.Core.Path.{_≡_};
-ghost use mathlib.Core.Bool.{true, cond};
-ghost use Prim.Native.Nat.{_*_, _-_, _^_, _<_, _≤_};
-ghost use lib.Dec.{eqb, ltb};
+ghost use mathlib.Core.Bool.{cond};
+ghost use Prim.Native.Nat.{_*_, _^_, _<_, _≤_};
+ghost use lib.Dec.{ltb};
 ghost use lib.IntN.{pos, negsuc, _+ℤ_};
 ghost use lib.ListN.{getD};
 ghost use lib.Signed.{_≤ℤ_, leZ};

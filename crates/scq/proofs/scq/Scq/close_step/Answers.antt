@@ -1,19 +1,17 @@
 use native.Mathlib.Omega.{arith}
 use Rattle.std.proofs.shelf.Signed.{ints}
-use Rattle.scq.proofs.Bounds.{moves, not-below, stages-set}
+use Rattle.scq.proofs.Bounds.{not-below, stages-set, steps}
 use Rattle.scq.proofs.scq.Scq.close_step.Needs as need
 
 pub ghost-self : need.ghost-self
 ghost-self c =
-  let q = c .args .self .now in
-  moves q (c .args .station) _ _ _ _ _ (q .counted) (q .«words_low») (c .in-A5 .is) (λ h. (omega arith, omega arith, omega arith, omega arith)) (omega arith)
+  steps (c .args .self .now) (c .args .station) _ _ (c .in-A5 .is) (λ h. search arith) (omega arith)
 
 pub ghost-self-in-A5 : need.ghost-self-in-A5
 ghost-self-in-A5 c =
-  let q = c .args .self .now in
-  moves q (c .args .station) _ _ _ _ _ (q .counted) (q .«words_low») (c .in-A5 .is) (λ h. (omega arith, omega arith, omega arith, omega arith)) (omega arith)
+  steps (c .args .self .now) (c .args .station) _ _ (c .in-A5 .is) (λ h. search arith) (omega arith)
 
 pub ghost-self-in-A6 : need.ghost-self-in-A6
 ghost-self-in-A6 c =
   let q = c .args .self .now in
-  (q .sized, (q .counted, (omega (arith, ints, c .top-highest .ensures), (q .«words_low», (stages-set _ _ _ _ _ (q .«stages_low») (omega arith, omega arith, omega arith, omega arith), (not-below _ _ _ (omega (arith, ints, c .top-highest .ensures)), tt))))))
+  (q .sized, (q .counted, (omega (arith, ints, c .top-highest .ensures), (q .«words_low», (stages-set _ _ _ _ _ (q .«stages_low») (search arith), (not-below _ _ _ (omega (arith, ints, c .top-highest .ensures)), tt))))))

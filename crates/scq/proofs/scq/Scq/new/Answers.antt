@@ -12,4 +12,4 @@ ghost-result c =
   let low : 1 ≤ c .args .places = sized-low (c .args .places) (c .pre .sizes .0) in
   let high : c .args .places ≤ 64 = sized-high (c .args .places) (c .pre .sizes .0) in
   ((low, high, omega arith, c .pre .sizes .2 .1), ((omega arith, omega arith), (omega (arith, ints, c .pre .counts), (c .pre .written,
-    (λ s. simp (getD-same 64 s Idle) (omega arith, omega arith, omega arith, omega arith), (new-not-far-below (c .args .stations) _ (omega arith) (omega (arith, ints, c .pre .counts)), tt))))))
+    (λ s. simp (getD-same 64 s Idle) (search arith), (new-not-far-below (c .args .stations) _ (omega arith) (omega (arith, ints, c .pre .counts)), tt))))))

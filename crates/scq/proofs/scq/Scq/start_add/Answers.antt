@@ -1,9 +1,8 @@
 use mathlib.Core.Path.{refl}
 use native.Mathlib.Omega.{arith}
-use Rattle.scq.proofs.Bounds.{moves}
+use Rattle.scq.proofs.Bounds.{steps}
 use Rattle.scq.proofs.scq.Scq.start_add.Needs as need
 
 pub ghost-self : need.ghost-self
 ghost-self c =
-  let q = c .args .self .now in
-  moves q (c .args .station) _ _ _ _ _ (q .counted) (q .«words_low») refl (λ h. (omega arith, omega arith, omega arith, omega arith)) (omega arith)
+  steps (c .args .self .now) (c .args .station) _ _ refl (λ h. search arith) (omega arith)
