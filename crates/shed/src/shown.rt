@@ -40,12 +40,12 @@ pub impl fmt::Display for Columns as ColumnsDisplay {
         let Counters { head, tail, threshold } = counters;
         write!(f, "{head:>4}  {tail:>4}  {threshold:>9}  ")?;
         let Some(word) = word else {
-            return write!(f, "    -     -      -  ");
+            return write!(f, "   -      -     -      -  ");
         };
         let cycle = word / (4 * PLACES);
         let safe = word / (2 * PLACES) % 2;
         let index = word % (2 * PLACES);
-        write!(f, "{cycle:>5}  {safe:>4}  ")?;
+        write!(f, "{word:>4}  {cycle:>5}  {safe:>4}  ")?;
         if index == 2 * PLACES - 1 { write!(f, "    ⊥  ") } else { write!(f, "{index:>5}  ") }
     }
 }
@@ -81,7 +81,7 @@ pub impl Shown for Ncq as NcqShown {
 
 pub impl Shown for Scq as ScqShown {
     fn headings() -> &'static str {
-        "head  tail  threshold  cycle  safe  index  "
+        "head  tail  threshold  word  cycle  safe  index  "
     }
 
     fn step(&self, station: usize) -> &'static str {
