@@ -2,7 +2,7 @@
 use mathlib.Core.Path.{_≡_, refl, subst, sym, ap}
 use mathlib.Core.List.{List, [], _∷_}
 use mathlib.Core.Logic.{⊎-elim}
-use Prim.Native.Nat.{ℕ, zero, suc, _+_, _^_, _<_, _≤_}
+use Prim.Native.Nat.{ℕ, zero, suc, _+_, _<_, _≤_}
 use native.Mathlib.Omega.{arith}
 use lib.IntN.{ℤ, pos, negsuc, _-ℤ_}
 use lib.ListN.{getD, replicate, set}
@@ -18,11 +18,8 @@ use Rattle.scq_table.specs.Table.{top}
 use Rattle.scq.specs.declared.scq.Scq.{Scq}
 use Rattle.scq.specs.Within.{may-lower, Low, LowStages, LowWords, lowering, NotFarBelow}
 
-pub stages-set : (n l : ℕ) (stages : List Stage) (s : ℕ) (st : Stage) → LowStages n l stages → Low n l st → LowStages n l (set stages s st)
+stages-set : (n l : ℕ) (stages : List Stage) (s : ℕ) (st : Stage) → LowStages n l stages → Low n l st → LowStages n l (set stages s st)
 stages-set n l stages s st = all-set (Low n l) stages s st Idle
-
-pub words-set : (words : List ℕ) (j w : ℕ) → LowWords words → w < 2 ^ 40 → LowWords (set words j w)
-words-set words j w = all-set (λ v. v < 2 ^ 40) words j w 0
 
 -- what is found where a value was set: that value, or nothing past the end
 found-set : {X : Type 0} (P : X → Type 0) (xs : List X) (i : ℕ) (x d : X) → P x → P d → P (getD (set xs i x) i d)
@@ -58,27 +55,38 @@ ends k stages s st z z' l e h d b = omega (arith, ints, recount k stages s Idle 
 pub not-below : (k : ℕ) (stages : List Stage) (z : ℤ) → pos 0 ≤ℤ z → NotFarBelow k stages z
 not-below k stages z h = omega (arith, ints, count-most k (λ s. may-lower (getD stages s Idle)))
 
-abbrev Bounded : ℕ → ℕ → ℕ → ℕ → ℕ → ℤ → List ℕ → List Stage → Type 0
-Bounded n k l h t z words stages =
-  ((1 ≤ n) × (n ≤ 64) × (k ≤ 64) × (l ≤ 999999999)) × (((h ≤ l) × (t ≤ l)) × ((z ≤ℤ top n) × (LowWords words × (LowStages n l stages × (NotFarBelow k stages z × Unit {0})))))
-
 -- nobody takes from a new ring, and somebody may
 pub new-not-far-below : (k : ℕ) (z : ℤ) → 1 ≤ k → negsuc 0 ≤ℤ z → NotFarBelow k (replicate 64 Idle) z
 new-not-far-below k z some h = omega (arith, ints, count-fewer k (λ s. may-lower (getD (replicate 64 Idle) s Idle)) 0 (omega arith) refl)
 
-pub low-at : (q : Scq) (s : ℕ) (st : Stage) → getD (q .stages) s Idle ≡ st → Low (q .places) (q .limit) st
-low-at q s st e = subst (Low (q .places) (q .limit)) e (q .«stages_low» s)
+-- a whole ring, with one station at another step
 
--- all the bounds of a ring whose station goes on, and whose Threshold stays
-pub moves : (q : Scq) (s : ℕ) (st st' : Stage) (h t : ℕ) (words : List ℕ) → (h ≤ q .limit) × (t ≤ q .limit) → LowWords words → getD (q .stages) s Idle ≡ st →
-  (Low (q .places) (q .limit) st → Low (q .places) (q .limit) st') → one-if (may-lower st') ≤ one-if (may-lower st) →
-  Bounded (q .places) (q .stations) (q .limit) h t (q .threshold) words (set (q .stages) s st')
-moves q s st st' h t words counted written e keeps f = (q .sized, (counted, (q .«threshold_high», (written,
-  (stages-set (q .places) (q .limit) (q .stages) s st' (q .«stages_low») (keeps (low-at q s st e)),
-    (stays (q .stations) (q .stages) s st' (q .threshold) (subst (λ v. one-if (may-lower st') ≤ one-if (may-lower v)) (sym e) f) (q .«threshold_low»), tt))))))
+abbrev Bounded : ℕ → ℕ → ℕ → ℕ → ℕ → ℤ → List ℕ → List Stage → Type 0
+Bounded n k l h t z words stages =
+  ((1 ≤ n) × (n ≤ 64) × (k ≤ 64) × (l ≤ 999999999)) × (((h ≤ l) × (t ≤ l)) × ((z ≤ℤ top n) × (LowWords words × (LowStages n l stages × (NotFarBelow k stages z × Unit {0})))))
 
--- nothing else changes
-pub steps : (q : Scq) (s : ℕ) (st st' : Stage) → getD (q .stages) s Idle ≡ st →
-  (Low (q .places) (q .limit) st → Low (q .places) (q .limit) st') → one-if (may-lower st') ≤ one-if (may-lower st) →
-  Bounded (q .places) (q .stations) (q .limit) (q .head) (q .tail) (q .threshold) (q .words) (set (q .stages) s st')
-steps q s st st' = moves q s st st' (q .head) (q .tail) (q .words) (q .counted) (q .«words_low»)
+module _ (q : Scq) (s : ℕ) where
+  abbrev LowHere : Stage → Type 0
+  LowHere = Low (q .places) (q .limit)
+
+  pub low-at : (st : Stage) → getD (q .stages) s Idle ≡ st → LowHere st
+  low-at st e = subst LowHere e (q .«stages_low» s)
+
+  -- Head, Tail or a word may change
+  pub moves : (st st' : Stage) (h t : ℕ) (words : List ℕ) → (h ≤ q .limit) × (t ≤ q .limit) → LowWords words → getD (q .stages) s Idle ≡ st →
+    (LowHere st → LowHere st') → one-if (may-lower st') ≤ one-if (may-lower st) →
+    Bounded (q .places) (q .stations) (q .limit) h t (q .threshold) words (set (q .stages) s st')
+  moves st st' h t words counted written e keeps f = (q .sized, (counted, (q .«threshold_high», (written,
+    (stages-set (q .places) (q .limit) (q .stages) s st' (q .«stages_low») (keeps (low-at st e)),
+      (stays (q .stations) (q .stages) s st' (q .threshold) (subst (λ v. one-if (may-lower st') ≤ one-if (may-lower v)) (sym e) f) (q .«threshold_low»), tt))))))
+
+  -- nothing else changes
+  pub steps : (st st' : Stage) → getD (q .stages) s Idle ≡ st → (LowHere st → LowHere st') → one-if (may-lower st') ≤ one-if (may-lower st) →
+    Bounded (q .places) (q .stations) (q .limit) (q .head) (q .tail) (q .threshold) (q .words) (set (q .stages) s st')
+  steps st st' = moves st st' (q .head) (q .tail) (q .words) (q .counted) (q .«words_low»)
+
+  -- Threshold may change
+  pub counts : (st' : Stage) (z : ℤ) → LowHere st' → z ≤ℤ top (q .places) → NotFarBelow (q .stations) (set (q .stages) s st') z →
+    Bounded (q .places) (q .stations) (q .limit) (q .head) (q .tail) z (q .words) (set (q .stages) s st')
+  counts st' z low high below =
+    (q .sized, (q .counted, (high, (q .«words_low», (stages-set (q .places) (q .limit) (q .stages) s st' (q .«stages_low») low, (below, tt))))))

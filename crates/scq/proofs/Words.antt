@@ -8,11 +8,12 @@ use native.Mathlib.Nat.{zero-add, div-add-mod, mod-lt, mul-assoc, mul-le-mul-lef
 use native.Mathlib.Omega.{arith}
 use lib.Bits.{bitOr, or-lt}
 use lib.Dec.{eqb, ltb}
-use lib.ListN.{length, getD}
+use lib.ListN.{length, getD, set}
 use Rattle.std.specs.Iters.{counting}
 use Rattle.std.proofs.shelf.Tests.{cases-lt, cond-both}
 use Rattle.std.proofs.shelf.Lists.{getD-past}
 use Rattle.std.proofs.shelf.Counted.{fill-by-all, getD-map-counting, length-map-counting}
+use Rattle.ring.proofs.Entries.{all-set}
 use Rattle.ring.specs.Cells.{swapped}
 use Rattle.scq_table.specs.Table.{cycle, safe, index, bottom, join, spoilt, new-words}
 use Rattle.scq.specs.Steps.{word-of-new}
@@ -23,6 +24,9 @@ unfolding new-words
 new-words-are n c words len all = fill-by-all (word-of-new n c) words 128 0 len all
 
 -- every word that is written stays below 2^40
+
+pub words-set : (words : List ℕ) (j w : ℕ) → LowWords words → w < 2 ^ 40 → LowWords (set words j w)
+words-set words j w = all-set (λ v. v < 2 ^ 40) words j w 0
 
 pub join-low : (n t c s i : ℕ) → n ≤ 64 → t ≤ 999999999 → c ≡ cycle n t → s ≤ 1 → i ≤ 128 → join n c s i < 2 ^ 40
 join-low n t c s i high lt e ls li =
@@ -55,3 +59,7 @@ or-low = or-lt 40
 pub swapped-keeps : (P : ℕ → Type 0) (cell old new : ℕ) (r : Bool) (last : ℕ) → (r, last) ≡ swapped cell old new → P cell → P new → P last
 swapped-keeps P cell old new r last e p q =
   subst (λ x. P (x .1)) (sym e) (cond-both {A = Bool × ℕ} (eqb cell old) _ _ (λ x. P (x .1)) (λ _. q) (λ _. p))
+
+pub swapped-low : (words : List ℕ) (j old new : ℕ) (r : Bool) (last : ℕ) → LowWords words → (r, last) ≡ swapped (getD words j 0) old new → new < 2 ^ 40 →
+  LowWords (set words j last)
+swapped-low words j old new r last low e small = words-set words j last low (swapped-keeps (λ w. w < 2 ^ 40) (getD words j 0) old new r last e (low j) small)

@@ -3,8 +3,8 @@ use Prim.Native.Nat.{_^_, _<_}
 use native.Mathlib.Omega.{arith}
 use borrow.Author.Needs.{needs}
 use lib.Seq.{set-getD}
-use Rattle.scq.proofs.Bounds.{low-at, moves, steps, words-set}
-use Rattle.scq.proofs.Words.{join-low, swapped-keeps}
+use Rattle.scq.proofs.Bounds.{low-at, moves, steps}
+use Rattle.scq.proofs.Words.{join-low, swapped-low}
 use Rattle.scq.proofs.scq.Scq.add_step.Needs as need
 
 pub ghost-self : need.ghost-self
@@ -45,14 +45,14 @@ ghost-self-then-compare-and-set c =
   let q = c .args .self .now in
   let low = low-at q (c .args .station) _ (c .in-A4 .is) in
   let new : c .join-new .result < 2 ^ 40 = omega (arith, c .join-new .ensures, join-low (q .places) (c .in-A4 .ticket) (c .cycle .result) 1 (c .in-A4 .index) (omega arith) (omega arith) (c .cycle .ensures) (omega arith) (omega arith)) in
-  moves q (c .args .station) _ _ _ _ _ (q .counted) (words-set _ _ _ (q .«words_low») (swapped-keeps (λ w. w < 2 ^ 40) _ _ _ _ _ (c .compare-and-set .ensures) (q .«words_low» (c .slot-in-A4 .result)) new)) (c .in-A4 .is) (λ h. search arith) (omega arith)
+  moves q (c .args .station) _ _ _ _ _ (q .counted) (swapped-low _ _ _ _ _ _ (q .«words_low») (c .compare-and-set .ensures) new) (c .in-A4 .is) (λ h. search arith) (omega arith)
 
 pub ghost-self-else-compare-and-set : need.ghost-self-else-compare-and-set
 ghost-self-else-compare-and-set c =
   let q = c .args .self .now in
   let low = low-at q (c .args .station) _ (c .in-A4 .is) in
   let new : c .join-new .result < 2 ^ 40 = omega (arith, c .join-new .ensures, join-low (q .places) (c .in-A4 .ticket) (c .cycle .result) 1 (c .in-A4 .index) (omega arith) (omega arith) (c .cycle .ensures) (omega arith) (omega arith)) in
-  moves q (c .args .station) _ _ _ _ _ (q .counted) (words-set _ _ _ (q .«words_low») (swapped-keeps (λ w. w < 2 ^ 40) _ _ _ _ _ (c .compare-and-set .ensures) (q .«words_low» (c .slot-in-A4 .result)) new)) (c .in-A4 .is) (λ h. search arith) (omega arith)
+  moves q (c .args .station) _ _ _ _ _ (q .counted) (swapped-low _ _ _ _ _ _ (q .«words_low») (c .compare-and-set .ensures) new) (c .in-A4 .is) (λ h. search arith) (omega arith)
 
 pub returns-else-compare-and-set : need.returns-else-compare-and-set
 returns-else-compare-and-set c =

@@ -1,6 +1,6 @@
 use native.Mathlib.Omega.{arith}
 use Rattle.std.proofs.shelf.Signed.{ints}
-use Rattle.scq.proofs.Bounds.{not-below, stages-set, steps}
+use Rattle.scq.proofs.Bounds.{counts, not-below, steps}
 use Rattle.scq.proofs.scq.Scq.close_step.Needs as need
 
 pub ghost-self : need.ghost-self
@@ -14,4 +14,4 @@ ghost-self-in-A5 c =
 pub ghost-self-in-A6 : need.ghost-self-in-A6
 ghost-self-in-A6 c =
   let q = c .args .self .now in
-  (q .sized, (q .counted, (omega (arith, ints, c .top-highest .ensures), (q .«words_low», (stages-set _ _ _ _ _ (q .«stages_low») (search arith), (not-below _ _ _ (omega (arith, ints, c .top-highest .ensures)), tt))))))
+  counts q (c .args .station) _ _ (search arith) (omega (arith, ints, c .top-highest .ensures)) (not-below _ _ _ (omega (arith, ints, c .top-highest .ensures)))

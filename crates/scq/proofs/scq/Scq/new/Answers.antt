@@ -4,7 +4,7 @@ use Rattle.std.proofs.shelf.Signed.{ints}
 use Rattle.scq_table.specs.declared.Stage.the-variants.{Idle}
 use Rattle.ring.proofs.Entries.{getD-same}
 use Rattle.ring.proofs.Sizes.{sized-low, sized-high}
-use Rattle.scq.proofs.Bounds.{new-not-far-below}
+use Rattle.scq.proofs.Bounds.{counts, new-not-far-below}
 use Rattle.scq.proofs.scq.Scq.new.Needs as need
 
 pub ghost-result : need.ghost-result

@@ -4,8 +4,8 @@ use native.Mathlib.Omega.{arith}
 use Rattle.std.proofs.shelf.Signed.{ints}
 use borrow.Author.Needs.{needs}
 use lib.Seq.{set-getD}
-use Rattle.scq.proofs.Bounds.{low-at, moves, not-below, stages-set, steps, words-set}
-use Rattle.scq.proofs.Words.{or-low, spoilt-low, swapped-keeps}
+use Rattle.scq.proofs.Bounds.{counts, low-at, moves, not-below, steps}
+use Rattle.scq.proofs.Words.{or-low, spoilt-low, swapped-low, words-set}
 use Rattle.scq.proofs.scq.Scq.take_step.Needs as need
 
 pub ghost-self : need.ghost-self
@@ -15,7 +15,7 @@ ghost-self c =
 pub ghost-self-in-T1 : need.ghost-self-in-T1
 ghost-self-in-T1 c =
   let q = c .args .self .now in
-  (q .sized, (q .counted, (q .«threshold_high», (q .«words_low», (stages-set _ _ _ _ _ (q .«stages_low») (search arith), (not-below _ _ _ (omega (arith, ints)), tt))))))
+  counts q (c .args .station) _ _ (search arith) (q .«threshold_high») (not-below _ _ _ (omega (arith, ints)))
 
 pub ghost-self-then-self : need.ghost-self-then-self
 ghost-self-then-self c =
@@ -52,14 +52,14 @@ ghost-self-then-compare-and-set c =
   let q = c .args .self .now in
   let low = low-at q (c .args .station) _ (c .in-T5 .is) in
   let new : c .spoilt-new .result < 2 ^ 40 = omega (arith, c .spoilt-new .ensures, spoilt-low (q .places) (c .in-T5 .ticket) (c .in-T5 .word) (omega arith) (omega arith) (omega arith)) in
-  moves q (c .args .station) _ _ _ _ _ (q .counted) (words-set _ _ _ (q .«words_low») (swapped-keeps (λ w. w < 2 ^ 40) _ _ _ _ _ (c .compare-and-set .ensures) (q .«words_low» (c .slot-in-T5 .result)) new)) (c .in-T5 .is) (λ h. search arith) (omega arith)
+  moves q (c .args .station) _ _ _ _ _ (q .counted) (swapped-low _ _ _ _ _ _ (q .«words_low») (c .compare-and-set .ensures) new) (c .in-T5 .is) (λ h. search arith) (omega arith)
 
 pub ghost-self-else-compare-and-set : need.ghost-self-else-compare-and-set
 ghost-self-else-compare-and-set c =
   let q = c .args .self .now in
   let low = low-at q (c .args .station) _ (c .in-T5 .is) in
   let new : c .spoilt-new .result < 2 ^ 40 = omega (arith, c .spoilt-new .ensures, spoilt-low (q .places) (c .in-T5 .ticket) (c .in-T5 .word) (omega arith) (omega arith) (omega arith)) in
-  moves q (c .args .station) _ _ _ _ _ (q .counted) (words-set _ _ _ (q .«words_low») (swapped-keeps (λ w. w < 2 ^ 40) _ _ _ _ _ (c .compare-and-set .ensures) (q .«words_low» (c .slot-in-T5 .result)) new)) (c .in-T5 .is) (λ h. search arith) (omega arith)
+  moves q (c .args .station) _ _ _ _ _ (q .counted) (swapped-low _ _ _ _ _ _ (q .«words_low») (c .compare-and-set .ensures) new) (c .in-T5 .is) (λ h. search arith) (omega arith)
 
 pub returns-else-compare-and-set : need.returns-else-compare-and-set
 returns-else-compare-and-set c =
