@@ -4,7 +4,7 @@ use mathlib.Core.Bool.{Bool}
 use mathlib.Core.List.{List, map}
 use mathlib.Core.Logic.{⊎-elim}
 use Prim.Native.Nat.{ℕ, _*_, _/_, _^_, _<_, _≤_}
-use native.Mathlib.Nat.{zero-add, div-add-mod, mod-lt, mul-assoc, mul-le-mul-left, div-div-eq-div-mul}
+use native.Mathlib.Nat.{zero-add, div-add-mod, mod-lt, mul-assoc, mul-le-mul-left, div-div-eq-div-mul, mul-le-mul-right}
 use native.Mathlib.Omega.{arith}
 use lib.Bits.{bitOr, or-lt}
 use lib.Dec.{eqb, ltb}
@@ -22,6 +22,10 @@ use Rattle.scq.specs.Within.{LowWords}
 pub new-words-are : (n c : ℕ) (words : List ℕ) → length words ≡ 128 → ((k : ℕ) → k < 128 → getD words k 0 ≡ word-of-new n c k) → words ≡ new-words n c
 unfolding new-words
 new-words-are n c words len all = fill-by-all (word-of-new n c) words 128 0 len all
+
+-- the parts of a word
+pub parts-low : (n c s : ℕ) → n ≤ 64 → s ≤ 1 → (4 * n * c ≤ 256 * c) × (2 * n * s ≤ 2 * n * 1)
+parts-low n c s high ls = (mul-le-mul-right {m = 4 * n} {n = 256} c (omega arith), mul-le-mul-left {m = s} {n = 1} (2 * n) ls)
 
 -- every word that is written stays below 2^40
 
