@@ -49,7 +49,7 @@ mod tests {
     }
 
     #[test]
-    fn an_add_takes_four_turns_and_a_take_three() -> Result<(), Fail> {
+    fn an_ncq_add_takes_four_turns_and_a_take_three() -> Result<(), Fail> {
         let mut ring = accepted(Ncq::make_empty(1, 1, 4))?;
         accepted(ring.begin_add(0, 0))?;
         check(matches!(ended(&mut ring, 0)?, (4, Progress::Added)))?;
@@ -58,7 +58,7 @@ mod tests {
     }
 
     #[test]
-    fn a_take_of_none_takes_two_turns() -> Result<(), Fail> {
+    fn a_take_of_none_from_an_ncq_takes_two_turns() -> Result<(), Fail> {
         let mut ring = accepted(Ncq::make_empty(2, 2, 100))?;
         check(matches!(take(&mut ring, 1)?, (2, Progress::Taken(None))))
     }
@@ -77,7 +77,7 @@ mod tests {
     }
 
     #[test]
-    fn an_index_in_the_ring_is_not_added_again() -> Result<(), Fail> {
+    fn an_index_in_a_full_ncq_is_not_added_again() -> Result<(), Fail> {
         let mut ring = accepted(Ncq::make_full(2, 1, 8))?;
         check_eq(refusal_of(ring.begin_add(0, 1)), 10)
     }

@@ -21,7 +21,7 @@ const MOST_TURNS: usize = 16 * PLACES + 16;
 
 // The number of a refusal, which ends the program.
 #[derive(Debug, Drop)]
-pub struct Refused {
+pub(crate) struct Refused {
     number: u32,
 }
 
@@ -81,7 +81,7 @@ struct Passed {
 }
 
 #[derive(Drop)]
-pub struct Shed<R> {
+pub(crate) struct Shed<R> {
     ring: R,
     // how many lines of the table are printed
     lines: u32,
@@ -93,7 +93,7 @@ pub struct Shed<R> {
 }
 
 impl<R: Shown> Shed<R> {
-    pub fn open(rt: &LibcRuntime) -> Result<Shed<R>, Refused> {
+    pub(crate) fn open(rt: &LibcRuntime) -> Result<Shed<R>, Refused> {
         Ok(Shed {
             ring: R::make_empty(PLACES, STATIONS, 100)?,
             lines: 0,
@@ -103,7 +103,7 @@ impl<R: Shown> Shed<R> {
         })
     }
 
-    pub fn add(&mut self, rt: &LibcRuntime, station: usize, index: usize) -> Result<(), AnyError>
+    pub(crate) fn add(&mut self, rt: &LibcRuntime, station: usize, index: usize) -> Result<(), AnyError>
         requires { ⌜ station < 2 ⌝ }
     {
         let progress = self.begin_add(station, index)?;
@@ -120,7 +120,7 @@ impl<R: Shown> Shed<R> {
         Ok(progress)
     }
 
-    pub fn take(&mut self, rt: &LibcRuntime, station: usize) -> Result<(), AnyError>
+    pub(crate) fn take(&mut self, rt: &LibcRuntime, station: usize) -> Result<(), AnyError>
         requires { ⌜ station < 2 ⌝ }
     {
         let progress = self.begin_take(station)?;
@@ -137,7 +137,7 @@ impl<R: Shown> Shed<R> {
     }
 
     // The station's turns to the end of its call.
-    pub fn finish(&mut self, rt: &LibcRuntime, station: usize) -> Result<(), AnyError>
+    pub(crate) fn finish(&mut self, rt: &LibcRuntime, station: usize) -> Result<(), AnyError>
         requires { ⌜ station < 2 ⌝ }
     {
         for _ in 0..MOST_TURNS {
@@ -148,7 +148,7 @@ impl<R: Shown> Shed<R> {
         Err("the call goes on".into())
     }
 
-    pub fn turn(&mut self, rt: &LibcRuntime, station: usize) -> Result<Progress, AnyError>
+    pub(crate) fn turn(&mut self, rt: &LibcRuntime, station: usize) -> Result<Progress, AnyError>
         requires { ⌜ station < 2 ⌝ }
     {
         let step = self.ring.step(station);
@@ -202,7 +202,7 @@ impl<R: Shown> Shed<R> {
         Ok(())
     }
 
-    pub fn print_summary(&self, rt: &LibcRuntime) -> Result<(), AnyError> {
+    pub(crate) fn print_summary(&self, rt: &LibcRuntime) -> Result<(), AnyError> {
         for passed in self.passed.iter() {
             let Passed { index, from, to, turns } = *passed;
             println!(rt, "index {index} went from station {from} to station {to} in {turns} turns")?;

@@ -12,7 +12,7 @@ use std::fmt;
 
 use crate::PLACES;
 
-pub trait Shown: Ring {
+pub(crate) trait Shown: Ring {
     // The headings of the ring's own columns.
     fn headings() -> &'static str;
 
@@ -27,7 +27,7 @@ pub trait Shown: Ring {
 }
 
 #[derive(Clone, Copy)]
-pub enum Columns {
+pub(crate) enum Columns {
     Nothing,
     Scq { counters: Counters, word: Option<usize> },
 }
