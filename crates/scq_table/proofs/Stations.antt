@@ -57,26 +57,6 @@ live-behind (T9 h v) x q = none x q
 live-behind (T10 h) x q = none x q
 live-behind (T11 h) x q = none x q
 
-pub behind-holds : (st : Stage) (x : ℕ) → behind st ≡ Some x → holds st ≡ Some x
-behind-holds Idle x q = none x q
-behind-holds (A1 i) x q = none x q
-behind-holds (A2 i t) x q = none x q
-behind-holds (A3 i t e) x q = none x q
-behind-holds (A4 i t e) x q = none x q
-behind-holds (A5 t) x q = none x q
-behind-holds (A6 t) x q = none x q
-behind-holds T1 x q = none x q
-behind-holds T2 x q = none x q
-behind-holds (T3 h) x q = q
-behind-holds (T4 h e) x q = q
-behind-holds (T5 h e) x q = q
-behind-holds (T6 h) x q = q
-behind-holds (T7 h u v) x q = q
-behind-holds (T8 h) x q = q
-behind-holds (T9 h v) x q = q
-behind-holds (T10 h) x q = none x q
-behind-holds (T11 h) x q = none x q
-
 pub brings-writes : (st : Stage) (x j : ℕ) → brings st ≡ Some (x, j) → writes st ≡ Some j
 brings-writes Idle x j q = none (x, j) q
 brings-writes (A1 i) x j q = none (x, j) q
