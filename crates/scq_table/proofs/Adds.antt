@@ -90,7 +90,7 @@ module _ (q : State) (m : Model) (h : Stands q m) (s : ℕ) (here : s < q .stati
       Does mem st (adding i f) → Sooner mem st₀ mem st → Goal q m h s here Going mem st
   add-quiet st₀ st at i f de fits w b a c d e late does sooner =
       add-row st₀ st at i f de (mem .tail) (h .charge) (omega arith) fits w a c d e late
-      (charged-on q m h s here st₀ st at (mem .head) (mem .tail) (mem .threshold) (h .charge) b (omega arith) (omega arith)) does sooner
+      (charged-on q m h s here st₀ st at (mem .head) (mem .tail) (mem .threshold) b (omega arith) (omega arith)) does sooner
       (AddMark.stays (sym (h .adds-at)))
 
   -- an add gives up a ticket that Head has passed
@@ -319,8 +319,8 @@ module _ (q : State) (m : Model) (h : Stands q m) (s : ℕ) (here : s < q .stati
       f : Fits mem (A4 i t e)
       f = fits-at (A4 i t e) at
 
-  -- a row of a station that is closing ticket t
-  module _ (t : ℕ) (st₀ st : Stage) (at : stage q s ≡ st₀) (z' : ℤ) where
+  -- a row of a station that is closing a ticket
+  module _ (st₀ st : Stage) (at : stage q s ≡ st₀) (z' : ℤ) where
     abbrev m'' : Memory
     m'' = with-threshold mem z'
 
@@ -339,7 +339,7 @@ module _ (q : State) (m : Model) (h : Stands q m) (s : ℕ) (here : s < q .stati
       live-on = λ x y. none x (sym no-live ∙ y);
       live-new = λ x a c. absurd (omega arith);
       behind-on = λ x a y. none x (sym no-behind ∙ y);
-      charged = charged-on q m h s here st₀ st at (mem .head) (mem .tail) z' (h .charge) b (omega arith) (omega arith);
+      charged = charged-on q m h s here st₀ st at (mem .head) (mem .tail) z' b (omega arith) (omega arith);
       closes-on = close;
       credit-on = omega (arith, ints, ap (λ x. one-if (is-some x)) no-hold);
     }
@@ -360,11 +360,11 @@ module _ (q : State) (m : Model) (h : Stands q m) (s : ℕ) (here : s < q .stati
   turn-a5 t at = cond-both (eqZ (mem .threshold) (top (mem .places))) _ _ (λ r. Turned Stands m s (carried q s r))
       (λ c. let at-top = eqZ-true _ _ c in
       shift q m h s here (A5 t) Idle at (mem .head) (mem .tail) (mem .threshold) (h .charge) Added idle
-      (close-shift t (A5 t) Idle at (mem .threshold) (≤ℤ-refl _) (sound .shared .threshold-high) tt refl refl refl refl refl refl
+      (close-shift (A5 t) Idle at (mem .threshold) (≤ℤ-refl _) (sound .shared .threshold-high) tt refl refl refl refl refl refl
       (λ x j y a z. inr (subst (λ v. pos (x + holders (q .stations) (stage (moved q s mem Idle))) ≤ℤ (pos (mem .head) +ℤ v)) (sym at-top) (topped mem x j y))))
       refl (a5-ends mem mem t) (closed t mem (does-at (A5 t) at) low (λ x. refl)) (AddMark.stays (sym (h .adds-at))) (TakeMark.stays (sym (h .takes-at))))
       (λ c. shift q m h s here (A5 t) (A6 t) at (mem .head) (mem .tail) (mem .threshold) (h .charge) Going (closing t)
-      (close-shift t (A5 t) (A6 t) at (mem .threshold) (≤ℤ-refl _) (sound .shared .threshold-high) low refl refl refl refl refl refl (λ x j y a z. inl z))
+      (close-shift (A5 t) (A6 t) at (mem .threshold) (≤ℤ-refl _) (sound .shared .threshold-high) low refl refl refl refl refl refl (λ x j y a z. inl z))
       refl (a5-a6 mem mem t)
       (subst (λ x. Goes m s x Going (then q m h s here Going mem (A6 t) (closing t))) (sym (does-at (A5 t) at))
       (CloseGoes.stays refl (put-same (m .doing) s (closing t)) (λ x. sym (h .pairs x))))
@@ -375,7 +375,7 @@ module _ (q : State) (m : Model) (h : Stands q m) (s : ℕ) (here : s < q .stati
 
   pub turn-a6 : (t : ℕ) → stage q s ≡ A6 t → Turned Stands m s (carried q s (step mem (q .limit) (A6 t)))
   turn-a6 t at = shift q m h s here (A6 t) Idle at (mem .head) (mem .tail) (top (mem .places)) (h .charge) Added idle
-      (close-shift t (A6 t) Idle at (top (mem .places)) (sound .shared .threshold-high) (≤ℤ-refl _) tt refl refl refl refl refl refl
+      (close-shift (A6 t) Idle at (top (mem .places)) (sound .shared .threshold-high) (≤ℤ-refl _) tt refl refl refl refl refl refl
       (λ x j y a z. inr (topped (with-threshold mem (top (mem .places))) x j y)))
       refl (a6-ends mem (with-threshold mem (top (mem .places))) t)
       (closed t (with-threshold mem (top (mem .places))) (does-at (A6 t) at) (fits-at (A6 t) at) (λ x. refl)) (AddMark.stays (sym (h .adds-at))) (TakeMark.stays (sym (h .takes-at)))

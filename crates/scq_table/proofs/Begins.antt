@@ -167,7 +167,7 @@ module _ (q : State) (m : Model) (h : Stands q m) where
           live-on = λ t e. absurd (some-none t (sym e ∙ ap live at));
           live-new = λ t a b. absurd (omega arith);
           behind-on = λ t a e. absurd (some-none t (sym e ∙ ap behind at));
-          charged = charged-on q m h s l Idle st at (mem .head) (mem .tail) (mem .threshold) (h .charge) no-item (omega arith) (omega arith);
+          charged = charged-on q m h s l Idle st at (mem .head) (mem .tail) (mem .threshold) no-item (omega arith) (omega arith);
           closes-on = λ t i p a e. absurd (some-none t (sym e ∙ ap closes at));
           credit-on = omega (arith, ints, ap (λ x. one-if (is-some x)) no-ticket);
         })

@@ -49,7 +49,7 @@ module _ (q : State) (m : Model) (h : Stands q m) (s : ℕ) (here : s < q .stati
           )
 
   -- from step st₀ to step st, with Head at h', Tail at t' and Threshold at z'
-  module _ (st₀ st : Stage) (at : stage q s ≡ st₀) (h' t' : ℕ) (z' : ℤ) (charge' : ℕ → ℕ) where
+  module _ (st₀ st : Stage) (at : stage q s ≡ st₀) (h' t' : ℕ) (z' : ℤ) where
     abbrev m' : Memory
     m' = changed mem h' t' z' (mem .words)
 
@@ -70,46 +70,48 @@ module _ (q : State) (m : Model) (h : Stands q m) (s : ℕ) (here : s < q .stati
         (λ p. inr (has-now (stage q) next s st mine others brings (t, i) (same ∙ (sym (ap brings at) ∙ p)))))
         (h .sound .charged)
 
-    -- what is left to show of such a row
-    pub record Shift : Type 0 where
-      pub head-on : mem .head ≤ h'
-      pub tail-on : mem .tail ≤ t'
-      pub threshold-high : z' ≤ℤ top (mem .places)
-      pub fits-mine : Fits m' st
-      pub writes-from : (i : ℕ) → writes st ≡ Some i → writes st₀ ≡ Some i
-      pub holds-from : (t : ℕ) → holds st ≡ Some t → (holds st₀ ≡ Some t) ⊎ (t ≡ mem .head)
-      pub swaps-late : (t u : ℕ) → t < mem .head → safe (mem .places) (word mem t) ≡ 0 → swaps st ≡ Some (u, word mem t) → t < u
-      pub live-on : (t : ℕ) → live st₀ ≡ Some t → (live st ≡ Some t) ⊎ Dead m' next t
-      pub live-new : (t : ℕ) → mem .head ≤ t → t < h' → live st ≡ Some t
-      pub behind-on : (t : ℕ) → t' ≤ t → behind st₀ ≡ Some t → behind st ≡ Some t
-      pub charged : Charged m' next charge'
-      pub closes-on : (t i : ℕ) → pair mem t ≡ Some i → h' ≤ t → closes st₀ ≡ Some t → (closes st ≡ Some t) ⊎ (pos (t + holders (q .stations) next) ≤ℤ (pos h' +ℤ z'))
-      pub credit-on : (pos (mem .head + one-if (is-some (holds st))) +ℤ mem .threshold) ≤ℤ (pos (h' + one-if (is-some (holds st₀))) +ℤ z')
-
     was : {X : Type 0} (f : Stage → Option X) (x : X) → f (stage q s) ≡ Some x → f st₀ ≡ Some x
     was f x p = sym (ap f at) ∙ p
 
-    pub shift : (a : Progress) (d : Doing) → Shift → Does m' st d → Sooner mem st₀ m' st →
-        Goes m s (m .doing s) a (then q m h s here a m' st d) → AddMark m (then q m h s here a m' st d) → TakeMark m s a (then q m h s here a m' st d) → Goal a m' st
-    shift a d p does sooner goes adds takes = row q m h s here a m' st d charge' (record {
-      keeps = marks-keep mem (q .stations) (stage q) (h .charge) (h .sound) s here h' t' z' next st charge' mine others (record {
-        head-on = p .head-on;
-        tail-on = p .tail-on;
-        threshold-high = p .threshold-high;
-        fits-mine = p .fits-mine;
-        writes-from = λ i w. inl (ap writes at ∙ p .writes-from i w);
-        holds-from = λ t x. ⊎-elim (λ y. inl (ap holds at ∙ y)) inr (p .holds-from t x);
-        swaps-late = p .swaps-late;
-        live-on = λ t x. p .live-on t (was live t x);
-        live-new = p .live-new;
-        behind-on = λ t l x. p .behind-on t l (was behind t x);
-        charged = p .charged;
-        closes-on = λ t i x l c. p .closes-on t i x l (was closes t c);
-        credit-on = subst (λ x. (pos (mem .head + one-if (is-some (holds st))) +ℤ mem .threshold) ≤ℤ (pos (h' + one-if (is-some (holds x))) +ℤ z')) (sym at) (p .credit-on);
-      });
-      does-mine = does;
-      sooner = subst (λ x. Sooner mem x m' st) (sym at) sooner;
-      goes = goes;
-      adds = adds;
-      takes = takes;
-    })
+    -- the tickets' numbers are then charge'
+    module _ (charge' : ℕ → ℕ) where
+      -- what is left to show of such a row
+      pub record Shift : Type 0 where
+        pub head-on : mem .head ≤ h'
+        pub tail-on : mem .tail ≤ t'
+        pub threshold-high : z' ≤ℤ top (mem .places)
+        pub fits-mine : Fits m' st
+        pub writes-from : (i : ℕ) → writes st ≡ Some i → writes st₀ ≡ Some i
+        pub holds-from : (t : ℕ) → holds st ≡ Some t → (holds st₀ ≡ Some t) ⊎ (t ≡ mem .head)
+        pub swaps-late : (t u : ℕ) → t < mem .head → safe (mem .places) (word mem t) ≡ 0 → swaps st ≡ Some (u, word mem t) → t < u
+        pub live-on : (t : ℕ) → live st₀ ≡ Some t → (live st ≡ Some t) ⊎ Dead m' next t
+        pub live-new : (t : ℕ) → mem .head ≤ t → t < h' → live st ≡ Some t
+        pub behind-on : (t : ℕ) → t' ≤ t → behind st₀ ≡ Some t → behind st ≡ Some t
+        pub charged : Charged m' next charge'
+        pub closes-on : (t i : ℕ) → pair mem t ≡ Some i → h' ≤ t → closes st₀ ≡ Some t → (closes st ≡ Some t) ⊎ (pos (t + holders (q .stations) next) ≤ℤ (pos h' +ℤ z'))
+        pub credit-on : (pos (mem .head + one-if (is-some (holds st))) +ℤ mem .threshold) ≤ℤ (pos (h' + one-if (is-some (holds st₀))) +ℤ z')
+
+      pub shift : (a : Progress) (d : Doing) → Shift → Does m' st d → Sooner mem st₀ m' st →
+          Goes m s (m .doing s) a (then q m h s here a m' st d) → AddMark m (then q m h s here a m' st d) → TakeMark m s a (then q m h s here a m' st d) → Goal a m' st
+      shift a d p does sooner goes adds takes = row q m h s here a m' st d charge' (record {
+        keeps = marks-keep mem (q .stations) (stage q) (h .charge) (h .sound) s here h' t' z' next st charge' mine others (record {
+          head-on = p .head-on;
+          tail-on = p .tail-on;
+          threshold-high = p .threshold-high;
+          fits-mine = p .fits-mine;
+          writes-from = λ i w. inl (ap writes at ∙ p .writes-from i w);
+          holds-from = λ t x. ⊎-elim (λ y. inl (ap holds at ∙ y)) inr (p .holds-from t x);
+          swaps-late = p .swaps-late;
+          live-on = λ t x. p .live-on t (was live t x);
+          live-new = p .live-new;
+          behind-on = λ t l x. p .behind-on t l (was behind t x);
+          charged = p .charged;
+          closes-on = λ t i x l c. p .closes-on t i x l (was closes t c);
+          credit-on = subst (λ x. (pos (mem .head + one-if (is-some (holds st))) +ℤ mem .threshold) ≤ℤ (pos (h' + one-if (is-some (holds x))) +ℤ z')) (sym at) (p .credit-on);
+        });
+        does-mine = does;
+        sooner = subst (λ x. Sooner mem x m' st) (sym at) sooner;
+        goes = goes;
+        adds = adds;
+        takes = takes;
+      })

@@ -104,7 +104,7 @@ module _ (q : State) (m : Model) (h : Stands q m) (s : ℕ) (here : s < q .stati
       shift q m h s here st₀ st at (mem .head) (mem .tail) (mem .threshold) (h .charge) a d
       (take-shift st₀ st at (mem .head) (mem .tail) (mem .threshold) (omega arith) (omega arith) (sound .shared .threshold-high) fits w sw c
       (λ x y. inl (hold x y)) lives (λ x l r. absurd (omega arith)) behinds
-      (charged-on q m h s here st₀ st at (mem .head) (mem .tail) (mem .threshold) (h .charge) b (omega arith) (omega arith))
+      (charged-on q m h s here st₀ st at (mem .head) (mem .tail) (mem .threshold) b (omega arith) (omega arith))
       (omega (arith, ints)))
       does sooner goes (AddMark.stays (sym (h .adds-at))) (TakeMark.stays (sym (h .takes-at)))
 
@@ -127,7 +127,7 @@ module _ (q : State) (m : Model) (h : Stands q m) (s : ℕ) (here : s < q .stati
       (take-shift T2 (T3 (mem .head)) at (mem .head + 1) (mem .tail) (mem .threshold) (omega arith) (omega arith) (sound .shared .threshold-high)
       (omega arith, λ x y. omega (arith, sound .shared .blanks-low (mem .head) x y)) refl refl refl
       (λ x y. inr (sym (some-value _ _ y))) (λ x y. none x y) (λ x l r. ap Some (omega arith)) (λ x l y. none x y)
-      (charged-on q m h s here T2 (T3 (mem .head)) at (mem .head + 1) (mem .tail) (mem .threshold) (h .charge) refl (omega arith) (omega arith))
+      (charged-on q m h s here T2 (T3 (mem .head)) at (mem .head + 1) (mem .tail) (mem .threshold) refl (omega arith) (omega arith))
       (omega (arith, ints)))
       (d .0, d .1, refl) (t2-t3 mem)
       (goes-on (with-head mem (mem .head + 1)) (T3 (mem .head)) (d .0) None false (Some (mem .head)) false (d .2) (λ x. refl)
@@ -510,7 +510,7 @@ module _ (q : State) (m : Model) (h : Stands q m) (s : ℕ) (here : s < q .stati
       shift q m h s here st₀ st at (mem .head) (mem .tail) (mem .threshold -ℤ pos 1) (h .charge) a d
       (take-shift st₀ st at (mem .head) (mem .tail) (mem .threshold -ℤ pos 1) (omega arith) (omega arith) (omega (arith, ints, sound .shared .threshold-high)) fits w sw c
       (λ x y. none x (sym no-hold ∙ y)) (λ x y. none x (sym gone ∙ y)) (λ x l r. absurd (omega arith)) (λ x l y. none x (sym no-behind ∙ y))
-      (charged-on q m h s here st₀ st at (mem .head) (mem .tail) (mem .threshold -ℤ pos 1) (h .charge) b (omega arith) (omega arith))
+      (charged-on q m h s here st₀ st at (mem .head) (mem .tail) (mem .threshold -ℤ pos 1) b (omega arith) (omega arith))
       (omega (arith, ints, ap (λ x. one-if (is-some x)) no-hold, ap one-if hold)))
       does sooner goes (AddMark.stays (sym (h .adds-at))) (TakeMark.stays (sym (h .takes-at)))
 
