@@ -4,6 +4,8 @@
 // the free ring has the index of each place that is free, the waiting ring those whose records wait.
 // What a call does is said in specs/Outcome.antt; what a day is, in specs/Day.antt; the rules, in specs/Rules.antt.
 
+#![tactic(auto)]
+
 ghost use Rattle.std.specs.Prelude.{ℕ};
 ghost use Rattle.days.specs.Day.{Day, IsDay};
 ghost use Rattle.days.specs.Rules.{Rules};

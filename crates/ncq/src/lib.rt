@@ -1,5 +1,7 @@
 // NCQ, the naive circular queue: a ring of indices whose stations make one memory operation a turn.
 
+#![tactic(auto)]
+
 ghost use Rattle.std.specs.Prelude.{◌≡◌, ◌/◌, ◌^◌, ◌<◌, ◌≤◌, true, if◌then◌else◌, Some, None, nat_lt, slice_index_or};
 ghost use Rattle.ring.specs.Sizes.{Sized, Crewed, Limited};
 ghost use Rattle.ring.specs.Meaning.{viewed};

@@ -5,6 +5,8 @@
 // begun and then carried out by turns. A turn makes one memory operation of its station's call.
 // What a ring stands for is said in specs/Model.antt and specs/Meaning.antt.
 
+#![tactic(auto)]
+
 ghost use Rattle.std.specs.Prelude.{◌≡◌, ℕ, Result};
 ghost use Rattle.ring.specs.Numbers.{answer_number, refusal_number, answer_of};
 ghost use Rattle.ring.specs.Sizes.{make_checked, Checked};

@@ -1,5 +1,7 @@
 // Small runs of the rings: how many turns a call takes, what it writes, and what is refused.
 
+#![tactic(auto)]
+
 #[cfg(test)]
 mod tests {
     use ncq::Ncq;

@@ -1,5 +1,7 @@
 // SCQ, the scalable circular queue: a ring of indices whose stations make one memory operation a turn.
 
+#![tactic(auto)]
+
 ghost use Rattle.std.specs.Prelude.{◌≡◌, ◌*◌, ◌^◌, ◌<◌, ◌≤◌, pos, negsuc, ◌+ℤ◌, ◌≤ℤ◌, if◌then◌else◌, Some, None, int_le, nat_lt, slice_index, slice_index_or};
 ghost use Rattle.ring.specs.Sizes.{Sized, Crewed, Limited};
 ghost use Rattle.ring.specs.Meaning.{viewed};

@@ -1,5 +1,7 @@
 // The scalable circular queue as a table of steps, and the theorem that the table has a ring's meaning.
 
+#![tactic(auto)]
+
 ghost use Rattle.ring.specs.Meaning.{HasMeaning};
 ghost use Rattle.scq_table.specs.Table.{State, empty, full, adds, takes, turns};
 ghost use Rattle.scq_table.specs.Stands.{Stands};

@@ -1,6 +1,8 @@
 // Two stations hand indices to each other over a ring. One of them falls silent in the middle of an
 // add, and the other goes on without it. The story is told of an NCQ ring and of an SCQ ring.
 
+#![tactic(auto)]
+
 ghost use Rattle.std.specs.Prelude.{◌<◌};
 
 mod shed;

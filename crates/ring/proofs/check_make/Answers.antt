@@ -5,7 +5,7 @@ use Rattle.ring.proofs.check_make.Goals as goal
 
 pub returns : goal.returns
 returns c = record {
-  outcome = c.ask-sizes.ensures;
-  meaning = subst (Checked c.args.places c.args.stations c.args.limit) (sym c.ask-sizes.ensures)
+  outcome = c.ask_sizes.ensures;
+  meaning = subst (Checked c.args.places c.args.stations c.args.limit) (sym c.ask_sizes.ensures)
       (checked c.args.places c.args.stations c.args.limit);
 }
