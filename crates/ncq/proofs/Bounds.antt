@@ -17,10 +17,10 @@ words-set n l words j w = all_set (λ v. v < n + l) words j w 0
 
 -- a station at step st goes on to st', with no new index and no new ticket
 pub goes_on : (n l : ℕ) (stages : List Stage) (s : ℕ) (st st' : Stage) → LowIndices n stages → LowTickets l stages → get_or stages s Idle ≡ st →
-    past_index st' ≤ past_index st → past_ticket st' ≤ past_ticket st → LowIndices n (set stages s st') × (LowTickets l (set stages s st') × Unit {0})
+    past_index st' ≤ past_index st → past_ticket st' ≤ past_ticket st → LowIndices n (set stages s st') × LowTickets l (set stages s st')
 goes_on n l stages s st st' indices tickets e hi ht = (
   indices-set n stages s st' indices (le_trans hi (subst (λ v. past_index v ≤ n) e (indices s))),
-  (tickets-set l stages s st' tickets (le_trans ht (subst (λ v. past_ticket v ≤ l) e (tickets s))), tt),
+  tickets-set l stages s st' tickets (le_trans ht (subst (λ v. past_ticket v ≤ l) e (tickets s))),
 )
 
 -- what `search` needs after a write or an unused loan of a station's step

@@ -9,9 +9,9 @@ pub returns : goal.returns
 returns c =
     let a = c.args in
     let q = view a.self.now in
-    let e = sym c.start-take.ensures in
+    let e = sym c.start_take.ensures in
     record {
-      outcome = c.start-take.ensures;
+      outcome = c.start_take.ensures;
       refused = subst (Kept q) e (table_means.take_kept q a.station);
       meaning = λ m h. subst (TakeBegun Stands m a.station) e (table_means.take_means q a.station m h);
     }

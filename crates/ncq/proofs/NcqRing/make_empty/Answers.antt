@@ -8,7 +8,7 @@ pub returns : goal.returns
 returns c =
     let a = c.args in
     record {
-      outcome = c.open-empty.ensures;
-      meaning = subst (MadeEmpty Stands a.places a.stations a.limit) (sym c.open-empty.ensures)
+      outcome = c.open_empty.ensures;
+      meaning = subst (MadeEmpty Stands a.places a.stations a.limit) (sym c.open_empty.ensures)
           (table_means.empty_means a.places a.stations a.limit);
     }

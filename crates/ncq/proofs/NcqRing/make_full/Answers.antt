@@ -8,7 +8,7 @@ pub returns : goal.returns
 returns c =
     let a = c.args in
     record {
-      outcome = c.open-full.ensures;
-      meaning = subst (MadeFull Stands a.places a.stations a.limit) (sym c.open-full.ensures)
+      outcome = c.open_full.ensures;
+      meaning = subst (MadeFull Stands a.places a.stations a.limit) (sym c.open_full.ensures)
           (table_means.full_means a.places a.stations a.limit);
     }

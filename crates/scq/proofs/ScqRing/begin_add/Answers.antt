@@ -9,9 +9,9 @@ pub returns : goal.returns
 returns c =
     let a = c.args in
     let q = view a.self.now in
-    let e = sym c.start-add.ensures in
+    let e = sym c.start_add.ensures in
     record {
-      outcome = c.start-add.ensures;
+      outcome = c.start_add.ensures;
       refused = subst (Kept q) e (table_means.add_kept q a.station a.index);
       meaning = λ m h. subst (AddBegun Stands m a.station a.index) e (table_means.add_means q a.station a.index m h);
     }

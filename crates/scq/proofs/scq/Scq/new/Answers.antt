@@ -6,8 +6,8 @@ use Rattle.ring.proofs.Sizes.{sized_low, sized_high}
 use Rattle.scq.proofs.Bounds.{counts, new_not_far_below}
 use Rattle.scq.proofs.scq.Scq.new.Goals as goal
 
-pub invariant-of-result : goal.invariant-of-result
-invariant-of-result c =
+pub invariant_of-result : goal.invariant_of-result
+invariant_of-result c =
     let low : 1 ≤ c.args.places = sized_low c.args.places c.requires.sizes.0 in
     let high : c.args.places ≤ 64 = sized_high c.args.places c.requires.sizes.0 in (
       (low, high, omega arith, c.requires.sizes.2.1),

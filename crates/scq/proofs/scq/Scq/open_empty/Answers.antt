@@ -8,7 +8,7 @@ use Rattle.scq.proofs.scq.Scq.open_empty.Goals as goal
 
 pub new-requires : goal.new-requires
 new-requires c =
-    let sizes = c.in-ok-check-make.ensures.meaning in
+    let sizes = c.in_ok-check_make.ensures.meaning in
     let low = sized_low c.args.places sizes.0 in
     record {
       sizes = sizes;
