@@ -60,8 +60,14 @@ new_not_far_below k z some h = omega (arith, ints, count_fewer k (λ s. may_lowe
 -- a whole ring, with one station at another step
 
 abbrev Bounded : ℕ → ℕ → ℕ → ℕ → ℕ → ℤ → List ℕ → List Stage → Type 0
-Bounded n k l h t z words stages =
-    ((1 ≤ n) × (n ≤ 64) × (k ≤ 64) × (l ≤ 999999999)) × (((h ≤ l) × (t ≤ l)) × ((z ≤ℤ top n) × (LowWords words × (LowStages n l stages × (NotFarBelow k stages z × Unit {0})))))
+Bounded n k l h t z words stages = record {
+  sized : (1 ≤ n) × (n ≤ 64) × (k ≤ 64) × (l ≤ 999999999);
+  counted : (h ≤ l) × (t ≤ l);
+  threshold_high : z ≤ℤ top n;
+  words_low : LowWords words;
+  stages_low : LowStages n l stages;
+  threshold_low : NotFarBelow k stages z;
+}
 
 module _ (q : Scq) (s : ℕ) where
   abbrev LowHere : Stage → Type 0
@@ -74,22 +80,14 @@ module _ (q : Scq) (s : ℕ) where
   pub moves : (st st' : Stage) (h t : ℕ) (words : List ℕ) → (h ≤ q.limit) × (t ≤ q.limit) → LowWords words → get_or q.stages s Idle ≡ st →
       (LowHere st → LowHere st') → one_if (may_lower st') ≤ one_if (may_lower st) →
       Bounded q.places q.stations q.limit h t q.threshold words (set q.stages s st')
-  moves st st' h t words counted written e keeps f = (
-    q.sized,
-    (
-      counted,
-      (
-        q.threshold_high,
-        (
-          written,
-          (
-            stages-set q.places q.limit q.stages s st' q.stages_low (keeps (low_at st e)),
-            (stays q.stations q.stages s st' q.threshold (subst (λ v. one_if (may_lower st') ≤ one_if (may_lower v)) (sym e) f) q.threshold_low, tt),
-          ),
-        ),
-      ),
-    ),
-  )
+  moves st st' h t words counted written e keeps f = record {
+    sized = q.sized;
+    counted = counted;
+    threshold_high = q.threshold_high;
+    words_low = written;
+    stages_low = stages-set q.places q.limit q.stages s st' q.stages_low (keeps (low_at st e));
+    threshold_low = stays q.stations q.stages s st' q.threshold (subst (λ v. one_if (may_lower st') ≤ one_if (may_lower v)) (sym e) f) q.threshold_low;
+  }
 
   -- nothing else changes
   pub steps : (st st' : Stage) → get_or q.stages s Idle ≡ st → (LowHere st → LowHere st') → one_if (may_lower st') ≤ one_if (may_lower st) →
@@ -99,5 +97,11 @@ module _ (q : Scq) (s : ℕ) where
   -- Threshold may change
   pub counts : (st' : Stage) (z : ℤ) → LowHere st' → z ≤ℤ top q.places → NotFarBelow q.stations (set q.stages s st') z →
       Bounded q.places q.stations q.limit q.head q.tail z q.words (set q.stages s st')
-  counts st' z low high below =
-      (q.sized, (q.counted, (high, (q.words_low, (stages-set q.places q.limit q.stages s st' q.stages_low low, (below, tt))))))
+  counts st' z low high below = record {
+    sized = q.sized;
+    counted = q.counted;
+    threshold_high = high;
+    words_low = q.words_low;
+    stages_low = stages-set q.places q.limit q.stages s st' q.stages_low low;
+    threshold_low = below;
+  }
