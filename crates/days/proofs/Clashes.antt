@@ -1,5 +1,5 @@
 -- Two values of one thing that cannot both be: what a station does, where its call stands.
-use Rattle.std.proofs.Common.{◌≡◌, ℕ, Bool, true, false, eqb, sym, ap, ◌∙◌}
+use Rattle.std.proofs.Common.{◌≡◌, ℕ, false, eqb, sym, ap, ◌∙◌}
 use Rattle.std.proofs.lemmas.Bool.{eq-eqb, both_ways}
 use Rattle.ring.specs.Model.{Doing, idle, adding, closing, seeking}
 use Rattle.days.specs.declared.Stage.{Stage}

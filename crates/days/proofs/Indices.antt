@@ -1,10 +1,10 @@
 -- Which indices are in a ring, before and after a call of it.
-use Rattle.std.proofs.Common.{◌≡◌, ℕ, ◌<◌, ◌≤◌, Bool, false, ◌⊎◌, Some, None, sym, refl, ap, ◌∙◌, inl, inr, ⊎_elim}
+use Rattle.std.proofs.Common.{◌≡◌, ℕ, ◌<◌, false, ◌⊎◌, Some, None, sym, refl, ap, ◌∙◌, inl, inr, ⊎_elim}
 use Rattle.std.proofs.lemmas.Bool.{cases_eq}
 use Rattle.ring.specs.declared.Progress.{Progress}
-use Rattle.ring.specs.declared.Progress.TheVariants.{Going, Added, Taken}
-use Rattle.ring.specs.Model.{Doing, idle, adding, closing, seeking, Model, EachOnce}
-use Rattle.ring.specs.Meaning.{SamePairs, OthersStay, Begun, Enters, Leaves}
+use Rattle.ring.specs.declared.Progress.TheVariants.{Taken}
+use Rattle.ring.specs.Model.{adding, seeking, Model, EachOnce}
+use Rattle.ring.specs.Meaning.{OthersStay, Begun}
 use Rattle.ring.proofs.Options.{some_value, some_none}
 use Rattle.days.proofs.Clashes.{does_not}
 use Rattle.days.proofs.Rings.{Inside, Step, seeks, finds_none, takes, adds, enters, closes, added}

@@ -1,9 +1,9 @@
 -- What holds at the end of every day: of the two rings, of the rack, of each station's call, of where each index is,
 -- and of the book. `Empty x w` and `Full y w` say that take x, or put y, has found what it may end empty or full by,
 -- before the day had had more than w calls.
-use Rattle.std.proofs.Common.{◌≡◌, ℕ, ◌+◌, ◌*◌, ◌<◌, ◌≤◌, Bool, true, ◌⊎◌, List, length, Some, None, Option}
+use Rattle.std.proofs.Common.{◌≡◌, ℕ, ◌+◌, ◌*◌, ◌<◌, ◌≤◌, Bool, true, ◌⊎◌, length, Some, None, Option}
 use Rattle.ring.specs.declared.Answer.TheVariants.{PutDone, PutFull, TakeDone, TakeEmpty}
-use Rattle.ring.specs.Model.{Doing, idle, adding, closing, seeking, Model}
+use Rattle.ring.specs.Model.{idle, adding, closing, seeking, Model}
 use Rattle.days.specs.declared.Stage.{Stage}
 use Rattle.days.specs.declared.Stage.TheVariants.{Idle, TakeFree, Store, AddWaiting, TakeWaiting, Fetch, AddFree}
 use Rattle.days.specs.Racks.{Lies, hand}

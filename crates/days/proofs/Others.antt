@@ -1,12 +1,12 @@
 -- A call of one station leaves what holds of each other station's call.
-use Rattle.std.proofs.Common.{◌≡◌, ℕ, ◌+◌, ◌*◌, ◌<◌, ◌≤◌, ◌⊎◌, Some, None, Option, sym, refl, ap, ◌∙◌, inl, inr, ⊎_elim, arith}
+use Rattle.std.proofs.Common.{◌≡◌, ℕ, ◌+◌, ◌*◌, ◌<◌, ◌≤◌, ◌⊎◌, Some, None, Option, sym, ◌∙◌, ⊎_elim, arith}
 use Rattle.std.proofs.lemmas.Bool.{cases_lt}
-use Rattle.ring.specs.Model.{Doing, idle, adding, closing, seeking, Model}
-use Rattle.ring.proofs.Options.{some_value, some_none}
+use Rattle.ring.specs.Model.{adding, Model}
+use Rattle.ring.proofs.Options.{some_none}
 use Rattle.days.specs.declared.Stage.{Stage}
 use Rattle.days.specs.declared.Stage.TheVariants.{Idle, TakeFree, Store, AddWaiting, TakeWaiting, Fetch, AddFree}
 use Rattle.days.specs.Racks.{Lies, hand}
-use Rattle.days.specs.Day.{Scene, Call, begin_put, begin_take}
+use Rattle.days.specs.Day.{Scene, Call}
 use Rattle.days.specs.Book.{End, Book}
 use Rattle.days.proofs.Invariant.{Owner, drawn, filled, fetched, IsPut, IsTake, Current, Adds, Returns, Serves, Booked, Sound}
 

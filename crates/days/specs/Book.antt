@@ -11,7 +11,7 @@ use Rattle.ring.specs.declared.Answer.{Answer}
 use Rattle.ring.specs.declared.Answer.TheVariants.{Going, PutDone, PutFull, TakeDone, TakeEmpty}
 use Rattle.ring.specs.declared.Refusal.{Refusal}
 use Rattle.ring.specs.Cells.{put}
-use Rattle.days.specs.Day.{Call, begin_put, begin_take, turn, Motion, stayed, entered, left, Instant, Day, opened, on, clock}
+use Rattle.days.specs.Day.{Call, begin_put, begin_take, turn, Motion, stayed, entered, left, Day, opened, on, clock}
 
 pub record End (R : Type 0) : Type 0 where
   -- how many calls the day had had then, the ending turn counted

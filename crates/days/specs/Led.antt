@@ -11,7 +11,7 @@ use Rattle.ring.specs.declared.Refusal.{Refusal}
 use Rattle.ring.specs.declared.Ring.{Ghosts}
 use Rattle.ring.specs.Sizes.{MakeRefused}
 use Rattle.days.specs.Outcome.{Hub, stage_of}
-use Rattle.days.specs.Day.{Scene, Call, Motion, Instant, Day, opened, on, scene, IsDay}
+use Rattle.days.specs.Day.{Scene, Call, Motion, Day, opened, on, scene, IsDay}
 use Rattle.days.specs.Rules.{Rules}
 
 module _ {F A R : Type 0} (f : Ghosts F) (a : Ghosts A) where

@@ -3,12 +3,9 @@
 // A hub passes records between stations. It has n places for records and two rings of their indices:
 // the free ring has the index of each place that is free, the waiting ring those whose records wait.
 // What a call does is said in specs/Outcome.antt; what a day is, in specs/Day.antt; the rules, in specs/Rules.antt.
+// That every day keeps them is not proved yet: proofs/ has what stands of the proof.
 
 #![tactic(auto)]
-
-ghost use Rattle.std.specs.Prelude.{ℕ};
-ghost use Rattle.days.specs.Day.{Day, IsDay};
-ghost use Rattle.days.specs.Rules.{Rules};
 
 // Where a station's call stands: what its next turn does.
 #[derive(Clone, Copy)]
@@ -28,9 +25,3 @@ pub enum Stage {
     // a take: the next operation of adding that index
     AddFree,
 }
-
-// Whatever calls come, in whatever number and order and with any of them refused, over any two rings
-// that do what a ring may do, and for any kind of record: the rules hold.
-pub fn every_day_keeps_the_rules<R>()
-    ensures { (n k : ℕ) (d : Day R) → IsDay n k d → Rules n d }
-{}

@@ -52,7 +52,7 @@ new_words_low n c high j =
 pub or_low : (v w : ℕ) → v < 2 ^ 40 → w < 2 ^ 40 → bit_or v w < 2 ^ 40
 or_low = or_lt 40
 
--- a cell after a compare_and_set holds what it held or the new value
+-- a cell after a compare-and-set holds what it held or the new value
 pub swapped_keeps : (P : ℕ → Type 0) (cell old new : ℕ) (r : Bool) (last : ℕ) → (r, last) ≡ swapped cell old new → P cell → P new → P last
 swapped_keeps P cell old new r last e p q =
     subst (λ x. P x.1) (sym e) (cond_both {A = Bool × ℕ} (eqb cell old) _ _ (λ x. P x.1) (λ _. q) (λ _. p))

@@ -3,7 +3,7 @@ use Rattle.std.proofs.lemmas.Int.{ints}
 use Rattle.scq_table.specs.declared.Stage.TheVariants.{Idle}
 use Rattle.ring.proofs.Entries.{get_or-same}
 use Rattle.ring.proofs.Sizes.{sized_low, sized_high}
-use Rattle.scq.proofs.Bounds.{counts, new_not_far_below}
+use Rattle.scq.proofs.Bounds.{new_not_far_below}
 use Rattle.scq.proofs.scq.Scq.new.Goals as goal
 
 pub invariant_of-result : goal.invariant_of-result

@@ -3,7 +3,6 @@ use Rattle.std.proofs.lemmas.Int.{ints}
 use Rattle.ring.proofs.Sizes.{sized_high}
 use Rattle.scq.specs.Within.{LowWords}
 use Rattle.scq.proofs.Words.{new_words_low}
-use Rattle.scq.proofs.Bounds.{counts}
 use Rattle.scq.proofs.scq.Scq.open_full.Goals as goal
 
 pub new-requires : goal.new-requires
