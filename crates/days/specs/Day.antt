@@ -78,12 +78,12 @@ pub record Opening {R : Type 0} (n k : ℕ) (σ : Scene R) : Type 0 where
 -- only station s's stage has changed, and to st
 pub record StageTo {R : Type 0} (σ : Scene R) (s : ℕ) (st : Stage) (σ' : Scene R) : Type 0 where
   pub stage_now : σ'.stage s ≡ st
-  pub stages_stay : (r : ℕ) → (r ≢ s) → σ'.stage r ≡ σ.stage r
+  pub stages_stay : (r : ℕ) → r ≢ s → σ'.stage r ≡ σ.stage r
 
 -- why a begin of station s may be refused, with which number
 pub data BeginRefused {R : Type 0} (k : ℕ) (σ : Scene R) (s : ℕ) (e : Refusal) : Type 0 where
   no_station : refusal_number e ≡ 5 → k ≤ s → BeginRefused k σ s e
-  busy : refusal_number e ≡ 6 → s < k → (σ.stage s ≢ Idle) → BeginRefused k σ s e
+  busy : refusal_number e ≡ 6 → s < k → σ.stage s ≢ Idle → BeginRefused k σ s e
 
 -- why a turn of station s may be refused, with which number
 pub data TurnRefused {R : Type 0} (k : ℕ) (σ : Scene R) (s : ℕ) (e : Refusal) : Type 0 where

@@ -7,7 +7,7 @@ ghost use Rattle.ring.specs.Sizes.{Sized, Crewed, Limited};
 ghost use Rattle.ring.specs.Meaning.{viewed};
 ghost use Rattle.ring.specs.Scans.{any_below};
 ghost use Rattle.ncq_table.specs.Table.{State, new_ring, full_words, empty, full, is_adding, is_there, adds, takes, turns};
-ghost use Rattle.ncq_table.specs.Table.{stage as Stage-at};
+ghost use Rattle.ncq_table.specs.Table.{stage as stage_at};
 ghost use Rattle.ncq_table.specs.Stands.{Stands};
 ghost use Rattle.ncq.specs.View.{view};
 ghost use Rattle.ncq.specs.Within.{LowWords};
@@ -119,7 +119,7 @@ fn writes_later(stage: Stage, index: usize) -> bool
 impl Ncq {
     // Where the station's call stands, if there is such a station.
     pub fn stage(&self, station: usize) -> Option<Stage>
-        ensures { result ≡ (if nat_lt station self.now.stations then Some (Stage-at (view self.now) station) else None) }
+        ensures { result ≡ (if nat_lt station self.now.stations then Some (stage_at (view self.now) station) else None) }
     {
         if station >= self.stations {
             return None;
@@ -213,7 +213,7 @@ impl Ncq {
     }
 
     fn is_being_added(&self, index: usize) -> bool
-        ensures { result ≡ any_below self.now.stations (λ s. is_adding index (Stage-at (view self.now) s)) }
+        ensures { result ≡ any_below self.now.stations (λ s. is_adding index (stage_at (view self.now) s)) }
     {
         for station in 0..self.stations {
             if writes_later(self.stages[station], index) {

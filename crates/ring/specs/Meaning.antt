@@ -66,7 +66,7 @@ abbrev pub SamePairs : Model → Model → Type 0
 SamePairs m m' = (t : ℕ) → m'.under t ≡ m.under t
 
 abbrev pub OthersStay : Model → ℕ → Model → Type 0
-OthersStay m s m' = (r : ℕ) → (r ≢ s) → m'.doing r ≡ m.doing r
+OthersStay m s m' = (r : ℕ) → r ≢ s → m'.doing r ≡ m.doing r
 
 -- begins: only the station's own doing changes, and its lone turns begin at 0
 
@@ -80,18 +80,18 @@ pub record Begun (m : Model) (s : ℕ) (does : Doing) (m' : Model) : Type 0 wher
   pub adds : m'.add_mark ≡ m.add_mark
   pub takes : m'.take_mark ≡ m.take_mark
   pub none_yet : m'.lone s ≡ 0
-  pub counts_stay : (r : ℕ) → (r ≢ s) → m'.lone r ≡ m.lone r
+  pub counts_stay : (r : ℕ) → r ≢ s → m'.lone r ≡ m.lone r
   pub indices : EachOnce m'
 
 pub data AddRefused (m : Model) (s i : ℕ) (e : Refusal) : Type 0 where
   no_station : refusal_number e ≡ 5 → m.stations ≤ s → AddRefused m s i e
-  busy : refusal_number e ≡ 6 → s < m.stations → (m.doing s ≢ idle) → AddRefused m s i e
+  busy : refusal_number e ≡ 6 → s < m.stations → m.doing s ≢ idle → AddRefused m s i e
   no_index : refusal_number e ≡ 9 → s < m.stations → m.doing s ≡ idle → m.places ≤ i → AddRefused m s i e
   not_outside : refusal_number e ≡ 10 → s < m.stations → m.doing s ≡ idle → i < m.places → (Outside m i → ⊥) → AddRefused m s i e
 
 pub data TakeRefused (m : Model) (s : ℕ) (e : Refusal) : Type 0 where
   no_station : refusal_number e ≡ 5 → m.stations ≤ s → TakeRefused m s e
-  busy : refusal_number e ≡ 6 → s < m.stations → (m.doing s ≢ idle) → TakeRefused m s e
+  busy : refusal_number e ≡ 6 → s < m.stations → m.doing s ≢ idle → TakeRefused m s e
 
 abbrev AddBegunAs : {S : Type 0} → (S → Model → Type 0) → Model → ℕ → ℕ → Result Progress Refusal → S → Type 0
 AddBegunAs stands m s i (Ok a) q' = (a ≡ Going) × (i < m.places) × Outside m i × ((m' : Model) × (Begun m s (adding i m.add_mark) m' × stands q' m'))
@@ -113,13 +113,13 @@ TakeBegun stands m s p = TakeBegunAs stands m s p.0 p.1
 pub record Enters (m : Model) (t i : ℕ) (m' : Model) : Type 0 where
   pub before : m.under t ≡ None
   pub after : m'.under t ≡ Some i
-  pub rest : (u : ℕ) → (u ≢ t) → m'.under u ≡ m.under u
+  pub rest : (u : ℕ) → u ≢ t → m'.under u ≡ m.under u
 
 -- the pair of ticket t and index i leaves, and its index is outside
 pub record Leaves (m : Model) (t i : ℕ) (m' : Model) : Type 0 where
   pub before : m.under t ≡ Some i
   pub after : m'.under t ≡ None
-  pub rest : (u : ℕ) → (u ≢ t) → m'.under u ≡ m.under u
+  pub rest : (u : ℕ) → u ≢ t → m'.under u ≡ m.under u
   pub outside : Outside m' i
 
 -- an adding station stays so, or its pair enters; none enters under a ticket below the take mark
@@ -187,7 +187,7 @@ pub record MayTurn (m : Model) (s : ℕ) (a : Progress) (m' : Model) : Type 0 wh
   pub adds : AddMark m m'
   pub takes : TakeMark m s a m'
   pub one_more : m'.lone s ≡ m.lone s + 1
-  pub others_alone_no_more : (r : ℕ) → (r ≢ s) → m'.lone r ≡ 0
+  pub others_alone_no_more : (r : ℕ) → r ≢ s → m'.lone r ≡ 0
   -- a call ends within 16n + 16 lone turns
   pub soon : a ≡ Going → m'.lone s < 16 * m.places + 16
   pub indices : EachOnce m'

@@ -11,7 +11,6 @@ mod shown;
 use crate::shed::Shed;
 use crate::shown::Shown;
 use ncq::Ncq;
-use ring::Ring;
 use scq::Scq;
 
 const PLACES: usize = 2;
