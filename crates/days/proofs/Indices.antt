@@ -1,19 +1,11 @@
 -- Which indices are in a ring, before and after a call of it.
-use Rattle.std.proofs.Common.{◌≡◌, ℕ, ◌<◌, false, ◌⊎◌, Some, None, sym, refl, ap, ◌∙◌, inl, inr, ⊎_elim}
+use Rattle.std.proofs.Common.{◌≡◌, ℕ, ◌<◌, false, ◌⊎◌, Some, None, sym, ap, ◌∙◌, inl, inr, ⊎_elim}
 use Rattle.std.proofs.lemmas.Bool.{cases_eq}
 use Rattle.ring.specs.declared.Progress.{Progress}
 use Rattle.ring.specs.declared.Progress.TheVariants.{Taken}
 use Rattle.ring.specs.Model.{adding, seeking, Model, EachOnce}
 use Rattle.ring.specs.Meaning.{OthersStay, Begun}
-use Rattle.ring.proofs.Options.{some_value, some_none}
-use Rattle.days.proofs.Clashes.{does_not}
 use Rattle.days.proofs.Rings.{Inside, Step, seeks, finds_none, takes, adds, enters, closes, added}
-
-pub same_index : {i j f g : ℕ} → adding i f ≡ adding j g → i ≡ j
-same_index e = cc
-
-pub same_mark : {i j f g : ℕ} → adding i f ≡ adding j g → f ≡ g
-same_mark e = cc
 
 pub inside_low : (m : Model) → EachOnce m → (i : ℕ) → Inside m i → i < m.places
 inside_low m once i (inl (t, e)) = once.pair_below t i e
@@ -25,14 +17,14 @@ module _ (m : Model) (s f : ℕ) (m' : Model) (b : Begun m s (seeking f None fal
   pub seek_inside_after : (j : ℕ) → Inside m' j → Inside m j
   seek_inside_after j (inl (t, e)) = inl (t, sym (b.pairs t) ∙ e)
   seek_inside_after j (inr (r, g, e)) = ⊎_elim
-      (λ same. does_not b.does_now (ap m'.doing (sym same) ∙ e) refl)
+      (λ same. absurd (cc))
       (λ other. inr (r, g, sym (b.others r other) ∙ e))
       (cases_eq r s)
 
   pub seek_inside_kept : (j : ℕ) → Inside m j → Inside m' j
   seek_inside_kept j (inl (t, e)) = inl (t, b.pairs t ∙ e)
   seek_inside_kept j (inr (r, g, e)) = ⊎_elim
-      (λ same. does_not b.was_idle (ap m.doing (sym same) ∙ e) refl)
+      (λ same. absurd (cc))
       (λ other. inr (r, g, b.others r other ∙ e))
       (cases_eq r s)
 
@@ -43,14 +35,14 @@ module _ (m : Model) (s i f : ℕ) (m' : Model) (b : Begun m s (adding i f) m') 
   pub add_inside_after : (j : ℕ) → Inside m' j → Inside m j ⊎ (j ≡ i)
   add_inside_after j (inl (t, e)) = inl (inl (t, sym (b.pairs t) ∙ e))
   add_inside_after j (inr (r, g, e)) = ⊎_elim
-      (λ same. inr (same_index (sym e ∙ (ap m'.doing same ∙ b.does_now))))
+      (λ same. inr (cc))
       (λ other. inl (inr (r, g, sym (b.others r other) ∙ e)))
       (cases_eq r s)
 
   pub add_inside_kept : (j : ℕ) → Inside m j → Inside m' j
   add_inside_kept j (inl (t, e)) = inl (t, b.pairs t ∙ e)
   add_inside_kept j (inr (r, g, e)) = ⊎_elim
-      (λ same. does_not b.was_idle (ap m.doing (sym same) ∙ e) refl)
+      (λ same. absurd (cc))
       (λ other. inr (r, g, b.others r other ∙ e))
       (cases_eq r s)
 
@@ -62,25 +54,25 @@ module _ (m : Model) (s : ℕ) (p : Progress) (m' : Model) (others : OthersStay 
   pair_after (seeks f held bare held' bare' d a x y z) t j e = inl (t, sym (y t) ∙ e)
   pair_after (finds_none f held bare d a x y z) t j e = inl (t, sym (y t) ∙ e)
   pair_after (takes f held bare v i d a x y z g) t j e = ⊎_elim
-      (λ same. absurd (some_none j (sym e ∙ (ap m'.under same ∙ y.after))))
+      (λ same. absurd (cc))
       (λ other. inl (t, sym (y.rest t other) ∙ e))
       (cases_eq t v)
   pair_after (adds i f d a x y) t j e = inl (t, sym (y t) ∙ e)
   pair_after (enters i f v d a x y z w) t j e = ⊎_elim
-      (λ same. inr (s, f, d ∙ ap (λ c. adding c f) (some_value i j (sym y.after ∙ (ap m'.under (sym same) ∙ e)))))
+      (λ same. inr (s, f, cc))
       (λ other. inl (t, sym (y.rest t other) ∙ e))
       (cases_eq t v)
   pair_after (closes v d a x y) t j e = inl (t, sym (y t) ∙ e)
   pair_after (added v d a x y z) t j e = inl (t, sym (y t) ∙ e)
 
   adds_after : Step m s p m' → (j g : ℕ) → m'.doing s ≡ adding j g → m.doing s ≡ adding j g
-  adds_after (seeks f held bare held' bare' d a x y z) j g e = does_not x e refl
-  adds_after (finds_none f held bare d a x y z) j g e = does_not x e refl
-  adds_after (takes f held bare v i d a x y z c) j g e = does_not x e refl
-  adds_after (adds i f d a x y) j g e = d ∙ (sym x ∙ e)
-  adds_after (enters i f v d a x y z w) j g e = does_not x e refl
-  adds_after (closes v d a x y) j g e = does_not x e refl
-  adds_after (added v d a x y z) j g e = does_not x e refl
+  adds_after (seeks f held bare held' bare' d a x y z) j g e = cc
+  adds_after (finds_none f held bare d a x y z) j g e = cc
+  adds_after (takes f held bare v i d a x y z c) j g e = cc
+  adds_after (adds i f d a x y) j g e = cc
+  adds_after (enters i f v d a x y z w) j g e = cc
+  adds_after (closes v d a x y) j g e = cc
+  adds_after (added v d a x y z) j g e = cc
 
   pub inside_after : Step m s p m' → (j : ℕ) → Inside m' j → Inside m j
   inside_after st j (inl (t, e)) = pair_after st t j e
@@ -94,25 +86,25 @@ module _ (m : Model) (s : ℕ) (p : Progress) (m' : Model) (others : OthersStay 
   pair_kept (seeks f held bare held' bare' d a x y z) t j n e = y t ∙ e
   pair_kept (finds_none f held bare d a x y z) t j n e = y t ∙ e
   pair_kept (takes f held bare v i d a x y z g) t j n e = ⊎_elim
-      (λ same. absurd (n (a ∙ ap (λ c. Taken (Some c)) (some_value i j (sym y.before ∙ (ap m.under (sym same) ∙ e))))))
+      (λ same. absurd (n (cc)))
       (λ other. y.rest t other ∙ e)
       (cases_eq t v)
   pair_kept (adds i f d a x y) t j n e = y t ∙ e
   pair_kept (enters i f v d a x y z w) t j n e = ⊎_elim
-      (λ same. absurd (some_none j (sym e ∙ (ap m.under same ∙ y.before))))
+      (λ same. cc)
       (λ other. y.rest t other ∙ e)
       (cases_eq t v)
   pair_kept (closes v d a x y) t j n e = y t ∙ e
   pair_kept (added v d a x y z) t j n e = y t ∙ e
 
   adder_kept : Step m s p m' → (j g : ℕ) → m.doing s ≡ adding j g → Inside m' j
-  adder_kept (seeks f held bare held' bare' d a x y z) j g e = does_not d e refl
-  adder_kept (finds_none f held bare d a x y z) j g e = does_not d e refl
-  adder_kept (takes f held bare v i d a x y z c) j g e = does_not d e refl
+  adder_kept (seeks f held bare held' bare' d a x y z) j g e = absurd (cc)
+  adder_kept (finds_none f held bare d a x y z) j g e = absurd (cc)
+  adder_kept (takes f held bare v i d a x y z c) j g e = absurd (cc)
   adder_kept (adds i f d a x y) j g e = inr (s, g, x ∙ (sym d ∙ e))
-  adder_kept (enters i f v d a x y z w) j g e = inl (v, y.after ∙ ap Some (same_index (sym d ∙ e)))
-  adder_kept (closes v d a x y) j g e = does_not d e refl
-  adder_kept (added v d a x y z) j g e = does_not d e refl
+  adder_kept (enters i f v d a x y z w) j g e = inl (v, cc)
+  adder_kept (closes v d a x y) j g e = absurd (cc)
+  adder_kept (added v d a x y z) j g e = absurd (cc)
 
   pub inside_kept : Step m s p m' → (j : ℕ) → (p ≡ Taken (Some j) → ⊥) → Inside m j → Inside m' j
   inside_kept st j n (inl (t, e)) = inl (t, pair_kept st t j n e)

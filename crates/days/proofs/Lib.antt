@@ -1,4 +1,3 @@
-mod Clashes
 mod Rings
 mod Indices
 mod Invariant

@@ -2,7 +2,6 @@
 use Rattle.std.proofs.Common.{◌≡◌, ℕ, ◌+◌, ◌*◌, ◌<◌, ◌≤◌, ◌⊎◌, Some, None, Option, sym, ◌∙◌, ⊎_elim, arith}
 use Rattle.std.proofs.lemmas.Bool.{cases_lt}
 use Rattle.ring.specs.Model.{adding, Model}
-use Rattle.ring.proofs.Options.{some_none}
 use Rattle.days.specs.declared.Stage.{Stage}
 use Rattle.days.specs.declared.Stage.TheVariants.{Idle, TakeFree, Store, AddWaiting, TakeWaiting, Fetch, AddFree}
 use Rattle.days.specs.Racks.{Lies, hand}
@@ -14,13 +13,13 @@ use Rattle.days.proofs.Invariant.{Owner, drawn, filled, fetched, IsPut, IsTake, 
 module _ {R : Type 0} {n : ℕ} {Empty Full : ℕ → ℕ → Type 0} {at : ℕ} {waiting : Model} {begun : ℕ → Option (Call R)} {ticket : ℕ → Option ℕ}
     {ended : ℕ → Option (End R)} {current : ℕ → Option ℕ} (h : Booked n Empty Full at waiting begun ticket ended current) where
   pub begun_before : (b : ℕ) (c : Call R) → begun b ≡ Some c → b < at
-  begun_before b c e = ⊎_elim (λ l. l) (λ l. absurd (some_none c (sym e ∙ h.none_begun b l))) (cases_lt b at)
+  begun_before b c e = ⊎_elim (λ l. l) (λ l. absurd (cc (h.none_begun b l))) (cases_lt b at)
 
   pub ended_before : (b : ℕ) (x : End R) → ended b ≡ Some x → b < at
-  ended_before b x e = ⊎_elim (λ l. l) (λ l. absurd (some_none x (sym e ∙ h.none_ended b l))) (cases_lt b at)
+  ended_before b x e = ⊎_elim (λ l. l) (λ l. absurd (cc (h.none_ended b l))) (cases_lt b at)
 
   pub ticket_before : (b t : ℕ) → ticket b ≡ Some t → b < at
-  ticket_before b t e = ⊎_elim (λ l. l) (λ l. absurd (some_none t (sym e ∙ h.none_ticket b l))) (cases_lt b at)
+  ticket_before b t e = ⊎_elim (λ l. l) (λ l. absurd (cc (h.none_ticket b l))) (cases_lt b at)
 
 -- what a call of another station changes of station r's
 pub record Apart {R : Type 0} (n at : ℕ) (Empty Full Empty' Full' : ℕ → ℕ → Type 0) (σ : Scene R) (β : Book R) (owner : ℕ → Owner)

@@ -6,8 +6,6 @@ use Rattle.ring.specs.declared.Progress.{Progress}
 use Rattle.ring.specs.declared.Progress.TheVariants.{Going, Added, Taken}
 use Rattle.ring.specs.Model.{Doing, idle, adding, closing, seeking, Model, Holds, Outside, EachOnce}
 use Rattle.ring.specs.Meaning.{New, SamePairs, OthersStay, Begun, Enters, Leaves, AddGoes, CloseGoes, Ticket, AllHeld, SeekGoes, Goes, AddMark, TakeMark, MayTurn}
-use Rattle.ring.proofs.Options.{some_value, some_none}
-use Rattle.days.proofs.Clashes.{does_not}
 
 -- an index is in a pair, or being added
 abbrev pub Inside : Model → ℕ → Type 0
@@ -53,18 +51,12 @@ add_mark_rises m m' (AddMark.stays e) = omega arith
 add_mark_rises m m' (AddMark.rises e) = omega arith
 add_mark_rises m m' (AddMark.catches_up a b) = a
 
--- what another station holds is what it held
-held_before : (m m' : Model) (s r t : ℕ) → OthersStay m s m' → (r ≡ s → ⊥) → Holds m' r t → Holds m r t
-held_before m m' s r t others e h = (h.0, h.1, sym (others r e) ∙ h.2)
-
 pub outside_from : (m : Model) (i : ℕ) → (Inside m i → ⊥) → Outside m i
 outside_from m i h = ((λ t e. h (inl (t, e))), (λ s f e. h (inr (s, f, e))))
 
-same_held : {f g : ℕ} {h h' : Option ℕ} {b b' : Bool} → seeking f h b ≡ seeking g h' b' → h ≡ h'
-same_held e = cc
-
-same_from : {f g : ℕ} {h h' : Option ℕ} {b b' : Bool} → seeking f h b ≡ seeking g h' b' → f ≡ g
-same_from e = cc
+-- what another station holds is what it held
+held_before : (m m' : Model) (s r t : ℕ) → OthersStay m s m' → (r ≡ s → ⊥) → Holds m' r t → Holds m r t
+held_before m m' s r t others e h = (h.0, h.1, sym (others r e) ∙ h.2)
 
 -- a new ring
 pub new_tidy : (n k l : ℕ) (m : Model) → New n k l m → Tidy n k m
@@ -73,9 +65,9 @@ new_tidy n k l m h = record {
   stations = h.stations;
   indices = h.indices;
   idle_beyond = λ s e. h.idle_all s;
-  held_below = λ s t p. does_not (h.idle_all s) p.2 refl;
-  one_holder = λ s r t p q. does_not (h.idle_all s) p.2 refl;
-  held_late = λ s f t b p. does_not (h.idle_all s) p refl;
+  held_below = λ s t p. absurd (cc (h.idle_all s));
+  one_holder = λ s r t p q. absurd (cc (h.idle_all s));
+  held_late = λ s f t b p. absurd (cc (h.idle_all s));
   soon = λ s. inl (h.idle_all s);
 }
 
@@ -114,19 +106,19 @@ module _ (n k : ℕ) (m : Model) (s : ℕ) (p : Progress) (m' : Model) (tidy : T
   -- a ticket that somebody comes to hold is one that the take mark passes
   new_held_by : (d : Doing) → Goes m s d p m' → m.doing s ≡ d → (u : ℕ) → Holds m' s u → Holds m s u ⊎ ((m.take_mark ≡ u) × (u < m'.take_mark))
   new_held_by idle g e u h = absurd g
-  new_held_by (adding i f) (AddGoes.stays a x y) e u h = does_not x h.2 refl
-  new_held_by (adding i f) (AddGoes.enters v a x y z w) e u h = does_not x h.2 refl
-  new_held_by (closing v) (CloseGoes.stays a x y) e u h = does_not x h.2 refl
-  new_held_by (closing v) (CloseGoes.ends a x y z) e u h = does_not x h.2 refl
+  new_held_by (adding i f) (AddGoes.stays a x y) e u h = absurd (cc)
+  new_held_by (adding i f) (AddGoes.enters v a x y z w) e u h = absurd (cc)
+  new_held_by (closing v) (CloseGoes.stays a x y) e u h = absurd (cc)
+  new_held_by (closing v) (CloseGoes.ends a x y z) e u h = absurd (cc)
   new_held_by (seeking f held bare) (SeekGoes.goes_on held' bare' a x y (Ticket.keeps c) z) e u h =
-      inl (f, bare, e ∙ ap (λ o. seeking f o bare) (sym c ∙ same_held (sym x ∙ h.2)))
+      inl (f, bare, cc)
   new_held_by (seeking f held bare) (SeekGoes.goes_on held' bare' a x y (Ticket.drops c w) z) e u h =
-      absurd (some_none u (sym (same_held (sym x ∙ h.2)) ∙ c))
+      absurd (cc)
   new_held_by (seeking f held bare) (SeekGoes.goes_on held' bare' a x y (Ticket.gets v c w q l r) z) e u h =
-      let q' = some_value v u (sym c ∙ same_held (sym x ∙ h.2)) in inr (w ∙ q', omega arith)
-  new_held_by (seeking f held bare) (SeekGoes.ends_with_none a x y z w) e u h = does_not x h.2 refl
-  new_held_by (seeking f held bare) (SeekGoes.ends_with_held v i a x y z) e u h = does_not x h.2 refl
-  new_held_by (seeking f held bare) (SeekGoes.ends_with_unheld v i a x y z w q l) e u h = does_not x h.2 refl
+      let q' : v ≡ u = cc in inr (w ∙ q', omega arith)
+  new_held_by (seeking f held bare) (SeekGoes.ends_with_none a x y z w) e u h = absurd (cc)
+  new_held_by (seeking f held bare) (SeekGoes.ends_with_held v i a x y z) e u h = absurd (cc)
+  new_held_by (seeking f held bare) (SeekGoes.ends_with_unheld v i a x y z w q l) e u h = absurd (cc)
 
   new_held : (r u : ℕ) → Holds m' r u → Holds m r u ⊎ ((r ≡ s) × (m.take_mark ≡ u) × (u < m'.take_mark))
   new_held r u h = ⊎_elim
@@ -143,19 +135,19 @@ module _ (n k : ℕ) (m : Model) (s : ℕ) (p : Progress) (m' : Model) (tidy : T
   -- a ticket that is got at this turn is not below the mark at the begin
   got_late : (d : Doing) → Goes m s d p m' → m.doing s ≡ d → (f u : ℕ) (bare : Bool) → m'.doing s ≡ seeking f (Some u) bare → f ≤ u
   got_late idle g e f u bare h = absurd g
-  got_late (adding i c) (AddGoes.stays a x y) e f u bare h = does_not x h refl
-  got_late (adding i c) (AddGoes.enters v a x y z w) e f u bare h = does_not x h refl
-  got_late (closing v) (CloseGoes.stays a x y) e f u bare h = does_not x h refl
-  got_late (closing v) (CloseGoes.ends a x y z) e f u bare h = does_not x h refl
+  got_late (adding i c) (AddGoes.stays a x y) e f u bare h = absurd (cc)
+  got_late (adding i c) (AddGoes.enters v a x y z w) e f u bare h = absurd (cc)
+  got_late (closing v) (CloseGoes.stays a x y) e f u bare h = absurd (cc)
+  got_late (closing v) (CloseGoes.ends a x y z) e f u bare h = absurd (cc)
   got_late (seeking g held b) (SeekGoes.goes_on held' b' a x y (Ticket.keeps c) z) e f u bare h =
-      omega (arith, same_from (sym x ∙ h), tidy.held_late s g u b (e ∙ ap (λ o. seeking g o b) (sym c ∙ same_held (sym x ∙ h))))
+      let k : g ≡ f = cc in omega (arith, tidy.held_late s g u b (cc))
   got_late (seeking g held b) (SeekGoes.goes_on held' b' a x y (Ticket.drops c w) z) e f u bare h =
-      absurd (some_none u (sym (same_held (sym x ∙ h)) ∙ c))
+      absurd (cc)
   got_late (seeking g held b) (SeekGoes.goes_on held' b' a x y (Ticket.gets v c w q l r) z) e f u bare h =
-      omega (arith, same_from (sym x ∙ h), some_value v u (sym c ∙ same_held (sym x ∙ h)))
-  got_late (seeking g held b) (SeekGoes.ends_with_none a x y z w) e f u bare h = does_not x h refl
-  got_late (seeking g held b) (SeekGoes.ends_with_held v i a x y z) e f u bare h = does_not x h refl
-  got_late (seeking g held b) (SeekGoes.ends_with_unheld v i a x y z w q l) e f u bare h = does_not x h refl
+      let k : g ≡ f = cc in let q' : v ≡ u = cc in omega arith
+  got_late (seeking g held b) (SeekGoes.ends_with_none a x y z w) e f u bare h = absurd (cc)
+  got_late (seeking g held b) (SeekGoes.ends_with_held v i a x y z) e f u bare h = absurd (cc)
+  got_late (seeking g held b) (SeekGoes.ends_with_unheld v i a x y z w q l) e f u bare h = absurd (cc)
 
   ends_or_goes_on : (d : Doing) → Goes m s d p m' → (m'.doing s ≡ idle) ⊎ (p ≡ Going)
   ends_or_goes_on idle g = absurd g
@@ -223,8 +215,8 @@ module _ (n k : ℕ) (m : Model) (s : ℕ) (p : Progress) (m' : Model) (tidy : T
     where
       others_not : (f v : ℕ) (bare : Bool) → m.doing s ≡ seeking f (Some v) bare → m'.doing s ≡ idle → (r : ℕ) → Holds m' r v → ⊥
       others_not f v bare e x r h = ⊎_elim
-          (λ o. does_not x (ap m'.doing (sym (tidy.one_holder r s v o (f, bare, e))) ∙ h.2) refl)
-          (λ o. does_not x (ap m'.doing (sym o.0) ∙ h.2) refl)
+          (λ o. absurd (cc (tidy.one_holder r s v o (f, bare, e))))
+          (λ o. absurd (cc))
           (new_held r v h)
 
       by : (d : Doing) → Goes m s d p m' → m.doing s ≡ d → Step m s p m'
@@ -240,4 +232,4 @@ module _ (n k : ℕ) (m : Model) (s : ℕ) (p : Progress) (m' : Model) (tidy : T
           takes f held bare v i e a x y (tidy.held_late s f v bare e')
           (record { none = y.after; passed = omega (arith, tidy.held_below s v (f, bare, e'), passed_more); unheld = others_not f v bare e' x })
       by (seeking f held bare) (SeekGoes.ends_with_unheld v i a x y z w q l) e =
-          takes f held bare v i e a x y q (record { none = y.after; passed = l; unheld = λ r h. ⊎_elim (λ o. w r o) (λ o. does_not x (ap m'.doing (sym o.0) ∙ h.2) refl) (new_held r v h) })
+          takes f held bare v i e a x y q (record { none = y.after; passed = l; unheld = λ r h. ⊎_elim (λ o. w r o) (λ o. absurd (cc)) (new_held r v h) })

@@ -6,7 +6,7 @@
 -- noted, book      the book with one call more, and of a whole day
 --
 -- Assumes nothing.
-use Rattle.std.specs.Prelude.{ℕ, ◌+◌, Bool, true, false, cond, List, Some, None, Ok, Err, Option, Result}
+use Rattle.std.specs.Prelude.{ℕ, ◌+◌, Bool, true, false, if◌then◌else◌, List, Some, None, Ok, Err, Option, Result}
 use Rattle.ring.specs.declared.Answer.{Answer}
 use Rattle.ring.specs.declared.Answer.TheVariants.{Going, PutDone, PutFull, TakeDone, TakeEmpty}
 use Rattle.ring.specs.declared.Refusal.{Refusal}
@@ -57,8 +57,8 @@ module _ {R : Type 0} where
   turns at s b a mo rack β = record {
     begun = β.begun;
     ticket = moved mo b β.ticket;
-    ended = cond (goes_on a) β.ended (put β.ended b (Some (record { when = at + 1; answer = a; rack = rack })));
-    current = cond (goes_on a) β.current (put β.current s None);
+    ended = if goes_on a then β.ended else put β.ended b (Some (record { when = at + 1; answer = a; rack = rack }));
+    current = if goes_on a then β.current else put β.current s None;
     lone = put (λ r. 0) s (β.lone s + 1);
   }
 

@@ -8,7 +8,7 @@
 --                  what a begin-put, a begin-take and a turn do
 --
 -- Assumes nothing.
-use Rattle.std.specs.Prelude.{ℕ, ◌+◌, Bool, true, false, cond, List, length, replicate, Some, None, Ok, Err, Result, ◌==◌, nat_lt, slice_index_or, slice_set}
+use Rattle.std.specs.Prelude.{ℕ, ◌+◌, Bool, true, false, if◌then◌else◌, List, length, replicate, Some, None, Ok, Err, Result, ◌==◌, nat_lt, slice_index_or, slice_set}
 use Rattle.ring.specs.declared.Answer.{Answer}
 use Rattle.ring.specs.declared.Answer.TheVariants as answer
 use Rattle.ring.specs.declared.Progress.{Progress}
@@ -119,22 +119,18 @@ module _ {F A : Type 0} (f : Ghosts F) (a : Ghosts A) where
 
   abbrev pub take_begun : Hub f.state a.state → ℕ → Result Answer Refusal × Hub f.state a.state
   take_begun h s =
-      cond (nat_lt s h.stations)
-      (cond (is_idle (stage_of h s))
-      (taken h s (a.takes h.waiting s).0 (a.takes h.waiting s).1)
-      (Err Busy, h))
-      (Err NoStation, h)
+      if nat_lt s h.stations then
+      (if is_idle (stage_of h s) then taken h s (a.takes h.waiting s).0 (a.takes h.waiting s).1 else (Err Busy, h))
+      else (Err NoStation, h)
 
   module _ {R : Type 0} where
     abbrev pub put_begun : Hub f.state a.state → List R → ℕ → R → Outcome f.state a.state R
     put_begun h rack s r =
-        cond (fits h rack)
-        (cond (nat_lt s h.stations)
-        (cond (is_idle (stage_of h s))
-        (put_taken h rack s r (f.takes h.free s).0 (f.takes h.free s).1)
-        (Err Busy, h, rack))
-        (Err NoStation, h, rack))
-        (Err Rack, h, rack)
+        if fits h rack then
+        (if nat_lt s h.stations then
+        (if is_idle (stage_of h s) then put_taken h rack s r (f.takes h.free s).0 (f.takes h.free s).1 else (Err Busy, h, rack))
+        else (Err NoStation, h, rack))
+        else (Err Rack, h, rack)
 
     -- one turn of station s, by where its call stands
     abbrev pub stepped : Hub f.state a.state → List R → ℕ → Stage → Outcome f.state a.state R
@@ -148,6 +144,6 @@ module _ {F A : Type 0} (f : Ghosts F) (a : Ghosts A) where
 
     abbrev pub turned : Hub f.state a.state → List R → ℕ → Outcome f.state a.state R
     turned h rack s =
-        cond (fits h rack)
-        (cond (nat_lt s h.stations) (stepped h rack s (stage_of h s)) (Err NoStation, h, rack))
-        (Err Rack, h, rack)
+        if fits h rack then
+        (if nat_lt s h.stations then stepped h rack s (stage_of h s) else (Err NoStation, h, rack))
+        else (Err Rack, h, rack)

@@ -8,7 +8,7 @@
 #![tactic(auto)]
 
 // Where a station's call stands: what its next turn does.
-#[derive(Clone, Copy)]
+#[derive(Clone, Copy, Debug, PartialEq, Eq)]
 pub enum Stage {
     // no call in progress
     Idle,

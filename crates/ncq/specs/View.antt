@@ -1,13 +1,8 @@
--- The state that a ring of the code shows: its fields, without the proofs of its bounds.
+-- The memory that the code's shows: its fields, without the proofs of its bounds.
 --
 -- Assumes nothing.
-use Rattle.ncq_table.specs.Table.{State}
-use Rattle.ncq.specs.declared.ncq.Ncq.{Ncq}
+use Rattle.ncq_table.specs.Table.{Memory}
+use Rattle.ncq.specs.declared.memory.NcqMemory.{NcqMemory}
 
-abbrev pub view : Ncq → State
-view q = record {
-  stations = q.stations;
-  limit = q.limit;
-  memory = record { places = q.places; head = q.head; tail = q.tail; words = q.words };
-  stages = q.stages;
-}
+abbrev pub view : NcqMemory → Memory
+view m = record { places = m.places; head = m.head; tail = m.tail; words = m.words }

@@ -2,328 +2,228 @@
 
 #![tactic(auto)]
 
-ghost use Rattle.std.specs.Prelude.{◌≡◌, ◌/◌, ◌^◌, ◌<◌, ◌≤◌, true, if◌then◌else◌, Some, None, nat_lt, slice_index_or};
-ghost use Rattle.ring.specs.Sizes.{Sized, Crewed, Limited};
-ghost use Rattle.ring.specs.Meaning.{viewed};
-ghost use Rattle.ring.specs.Scans.{any_below};
-ghost use Rattle.ncq_table.specs.Table.{State, new_ring, full_words, empty, full, is_adding, is_there, adds, takes, turns};
-ghost use Rattle.ncq_table.specs.Table.{stage as stage_at};
+ghost use Rattle.std.specs.Prelude.{◌≡◌, ◌<◌, ◌==◌, if◌then◌else◌, Ok, Err, nat_lt};
+ghost use Rattle.ring.specs.declared.Refusal.TheVariants.{AtLimit};
+ghost use Rattle.ring.specs.Tables.{TellsAlways};
+ghost use Rattle.ncq_table.specs.Table as rows;
+ghost use Rattle.ncq_table.specs.declared.Stage.TheVariants.{N1, N2, N4, N6, N7, N8};
+ghost use Rattle.ncq_table.specs.Table.{full_words, steps};
 ghost use Rattle.ncq_table.specs.Stands.{Stands};
 ghost use Rattle.ncq.specs.View.{view};
-ghost use Rattle.ncq.specs.Within.{LowWords};
-ghost use Rattle.ncq.specs.Steps.{may_begin, adds_now, takes_now, age};
+ghost use Rattle.ncq_table.specs.Within.{StepFits, Bounded};
+ghost use Rattle.ncq.specs.Steps.{age};
 ghost use Rattle.ncq_table.proofs.Meaning.{table_means};
+ghost use Rattle.ncq_table.proofs.Bounds.{bounded_prop, keeps_bounds};
 
-mod ncq;
+mod memory;
 
-pub use ncq::Ncq;
+pub use memory::NcqMemory;
 use ncq_table::Stage;
-use ring::{Progress, Refusal, Ring, check_make, compare_and_set};
+use ring::{Progress, Refusal, Sizes, compare_and_set};
+use std::array;
+use table::{Memory, Row, Table, going};
 
-impl Ring for Ncq {
-    ghost state = { State };
+// A ring of indices.
+pub type Ncq = Table<NcqMemory>;
+
+impl Memory for NcqMemory {
+    type Stage = Stage;
+
+    ghost shown = { rows.Memory };
 
     ghost view = { view };
 
-    ghost empty = { empty };
+    ghost steps = { steps };
 
-    ghost full = { full };
+    ghost fits = { StepFits };
 
-    ghost adds = { adds };
+    ghost bounded = { Bounded };
 
-    ghost takes = { takes };
-
-    ghost turns = { turns };
+    ghost bounded_prop = { bounded_prop };
 
     ghost stands = { Stands };
 
+    ghost bounds = { keeps_bounds };
+
     ghost means = { table_means };
 
-    fn make_empty(places: usize, stations: usize, limit: usize) -> Result<Ncq, Refusal> {
-        Ncq::open_empty(places, stations, limit)
+    // The next take has the first ticket of cycle 1, and so has the next add.
+    fn empty(sizes: Sizes) -> NcqMemory {
+        let first = sizes.places;
+        NcqMemory {
+            places: sizes.places,
+            head: first,
+            tail: first,
+            words: [0; 64],
+        }
     }
 
-    fn make_full(places: usize, stations: usize, limit: usize) -> Result<Ncq, Refusal> {
-        Ncq::open_full(places, stations, limit)
+    // Every index is in cycle 0.
+    fn full(sizes: Sizes) -> NcqMemory {
+        let places = sizes.places;
+        NcqMemory {
+            places,
+            head: 0,
+            tail: places,
+            words: words_of_all(places),
+        }
     }
 
-    fn begin_add(&mut self, station: usize, index: usize) -> Result<Progress, Refusal> {
-        self.start_add(station, index)
+    fn places(&self) -> usize {
+        self.places
     }
 
-    fn begin_take(&mut self, station: usize) -> Result<Progress, Refusal> {
-        self.start_take(station)
+    fn slots(&self) -> usize {
+        self.places
     }
 
-    fn turn(&mut self, station: usize) -> Result<Progress, Refusal> {
-        self.step(station)
+    // No take has passed the word's ticket.
+    fn is_at(&self, index: usize, slot: usize) -> bool {
+        let word = self.words[slot];
+        word % self.places == index && self.head <= self.places * self.cycle(word) + slot
+    }
+
+    fn idle() -> Stage {
+        Stage::Idle
+    }
+
+    fn is_idle(stage: Stage) -> bool {
+        matches!(stage, Stage::Idle)
+    }
+
+    fn adding(index: usize) -> Stage {
+        Stage::N1 { index }
+    }
+
+    fn taking() -> Stage {
+        Stage::N6
+    }
+
+    fn is_adding(stage: Stage, index: usize) -> bool {
+        match stage {
+            Stage::N1 { index: added }
+            | Stage::N2 { index: added, .. }
+            | Stage::N3 { index: added, .. }
+            | Stage::N4 { index: added, .. } => added == index,
+            _ => false,
+        }
+    }
+
+    // The step table: one memory operation, and where the station stands after it.
+    #[rattlefmt::skip]
+    fn row(&mut self, limit: usize, stage: Stage) -> Row<Stage> {
+        match stage {
+            Stage::Idle => Err(Refusal::NoCall),
+            Stage::N1 { index } => {
+                let ticket = ticket_at(self.tail, limit)?;
+                going(Stage::N2 { index, ticket })
+            }
+            Stage::N2 { index, ticket } => self.load_to_add(index, ticket),
+            Stage::N3 { index, ticket } => {
+                compare_and_set(&mut self.tail, ticket, ticket + 1);
+                going(Stage::N1 { index })
+            }
+            Stage::N4 { index, ticket, word } => self.write(index, ticket, word),
+            Stage::N5 { ticket } => {
+                compare_and_set(&mut self.tail, ticket, ticket + 1); // or another add has moved it
+                Ok((Progress::Added, Stage::Idle))
+            }
+            Stage::N6 => {
+                let ticket = ticket_at(self.head, limit)?;
+                going(Stage::N7 { ticket })
+            }
+            Stage::N7 { ticket } => self.load_to_take(ticket),
+            Stage::N8 { ticket, word } => {
+                if !compare_and_set(&mut self.head, ticket, ticket + 1) {
+                    return going(Stage::N6);
+                }
+                Ok((Progress::Taken(Some(word % self.places)), Stage::Idle))
+            }
+        }
     }
 }
 
-// Which time round the slots a ticket or a word belongs to.
-fn cycle(places: usize, number: usize) -> usize
-    requires { 1 ≤ places }
-    ensures { result ≡ number / places }
+// The ticket that the counter stands at, below the limit.
+fn ticket_at(counter: usize, limit: usize) -> Result<usize, Refusal>
+    ensures { result ≡ (if counter == limit then Err AtLimit else Ok counter) }
 {
-    number / places
-}
-
-// When the word at a ticket's slot was written.
-#[derive(Clone, Copy)]
-enum Age {
-    // in the ticket's cycle
-    Current,
-    // in the cycle before it
-    Previous,
-    Other,
-}
-
-fn age_of(places: usize, word: usize, ticket: usize) -> Age
-    requires { (1 ≤ places) × (word < 2 ^ 32) }
-    ensures { result ≡ age places word ticket }
-{
-    if cycle(places, word) == cycle(places, ticket) {
-        Age::Current
-    } else if cycle(places, word) + 1 == cycle(places, ticket) {
-        Age::Previous
-    } else {
-        Age::Other
+    if counter == limit {
+        return Err(Refusal::AtLimit);
     }
+    Ok(counter)
 }
 
 // The words of a ring that holds every index: index j of cycle 0 at slot j.
 fn words_of_all(places: usize) -> [usize; 64]
-    requires { places ≤ 64 }
     ensures { result ≡ full_words places }
 {
-    let mut words = [0; 64];
-    for slot in 0..places {
-        words[slot] = slot;
-    }
-    words
+    array::from_fn(
+        |slot| -> usize
+            ensures { result ≡ (if nat_lt slot places then slot else 0) }
+        { if slot < places { slot } else { 0 } },
+    )
 }
 
-// Whether a call that stands there is still to write the index.
-fn writes_later(stage: Stage, index: usize) -> bool
-    ensures { result ≡ is_adding index stage }
-{
-    match stage {
-        Stage::N1 { index: added }
-        | Stage::N2 { index: added, .. }
-        | Stage::N3 { index: added, .. }
-        | Stage::N4 { index: added, .. } => added == index,
-        _ => false,
-    }
-}
-
-impl Ncq {
-    // Where the station's call stands, if there is such a station.
-    pub fn stage(&self, station: usize) -> Option<Stage>
-        ensures { result ≡ (if nat_lt station self.now.stations then Some (stage_at (view self.now) station) else None) }
+impl NcqMemory {
+    // Which time round the slots a ticket or a word belongs to.
+    fn cycle(&self, number: usize) -> usize
+        ensures { result ≡ rows.cycle self.now.places number }
     {
-        if station >= self.stations {
-            return None;
-        }
-        Some(self.stages[station])
+        number / self.places
     }
 
-    // A new ring: every station is idle, and the next add has the first ticket of cycle 1.
-    fn new(places: usize, stations: usize, limit: usize, head: usize, words: [usize; 64]) -> Ncq
-        requires sizes { Sized places × Crewed places stations × Limited places limit }
-        requires taken { head ≤ places }
-        requires written { LowWords places limit words }
-        ensures { view result ≡ new_ring places stations limit head words }
+    // The word at the ticket's slot.
+    fn word(&self, ticket: usize) -> usize
+        ensures { result ≡ rows.word (view self.now) ticket }
     {
-        Ncq {
-            places,
-            stations,
-            limit,
-            head,
-            tail: places,
-            words,
-            stages: [Stage::Idle; 64],
-        }
+        self.words[ticket % self.places]
     }
 
-    fn open_empty(places: usize, stations: usize, limit: usize) -> Result<Ncq, Refusal>
-        ensures { viewed view result ≡ empty places stations limit }
+    // How many cycles before the ticket's the word was written, if it was not after it.
+    fn age(&self, word: usize, ticket: usize) -> Option<usize>
+        ensures { result ≡ age self.now.places word ticket }
     {
-        check_make(places, stations, limit)?;
-        Ok(Ncq::new(places, stations, limit, places, [0; 64]))
+        self.cycle(ticket).checked_sub(self.cycle(word))
     }
 
-    fn open_full(places: usize, stations: usize, limit: usize) -> Result<Ncq, Refusal>
-        ensures { viewed view result ≡ full places stations limit }
+    // N2
+    fn load_to_add(&self, index: usize, ticket: usize) -> Row<Stage>
+        ensures { TellsAlways steps (view self.now) (N2 index ticket) result (view self.now) }
     {
-        check_make(places, stations, limit)?;
-        Ok(Ncq::new(places, stations, limit, 0, words_of_all(places)))
-    }
-
-    fn start_add(&mut self, station: usize, index: usize) -> Result<Progress, Refusal>
-        ensures { (result, view self.new) ≡ adds (view self.old) station index }
-    {
-        self.check_idle(station)?;
-        if index >= self.places {
-            return Err(Refusal::NoIndex);
-        }
-        if self.is_in_pair(index) || self.is_being_added(index) {
-            return Err(Refusal::NotOutside);
-        }
-        self.stages[station] = Stage::N1 { index };
-        Ok(Progress::Going)
-    }
-
-    fn start_take(&mut self, station: usize) -> Result<Progress, Refusal>
-        ensures { (result, view self.new) ≡ takes (view self.old) station }
-    {
-        self.check_idle(station)?;
-        self.stages[station] = Stage::N6;
-        Ok(Progress::Going)
-    }
-
-    // A station has one call in progress at the most.
-    fn check_idle(&self, station: usize) -> Result<(), Refusal>
-        ensures { result ≡ may_begin (view self.now) station }
-    {
-        match self.stage(station) {
-            None => Err(Refusal::NoStation),
-            Some(Stage::Idle) => Ok(()),
-            Some(_) => Err(Refusal::Busy),
-        }
-    }
-
-    fn is_in_pair(&self, index: usize) -> bool
-        ensures { result ≡ any_below self.now.places (is_there (view self.now).memory index) }
-    {
-        for slot in 0..self.places {
-            if self.is_at(index, slot) {
-                return true;
-            }
-        }
-        false
-    }
-
-    // Whether the slot's word has the index, and no take has passed its ticket.
-    fn is_at(&self, index: usize, slot: usize) -> bool
-        requires { slot < self.now.places }
-        ensures { result ≡ is_there (view self.now).memory index slot }
-    {
-        let word = self.words[slot];
-        word % self.places == index && self.head <= self.places * cycle(self.places, word) + slot
-    }
-
-    fn is_being_added(&self, index: usize) -> bool
-        ensures { result ≡ any_below self.now.stations (λ s. is_adding index (stage_at (view self.now) s)) }
-    {
-        for station in 0..self.stations {
-            if writes_later(self.stages[station], index) {
-                return true;
-            }
-        }
-        false
-    }
-
-    // One row of the step table: the station's next memory operation.
-    fn step(&mut self, station: usize) -> Result<Progress, Refusal>
-        ensures { (result, view self.new) ≡ turns (view self.old) station }
-    {
-        match self.stage(station) {
-            None => Err(Refusal::NoStation),
-            Some(Stage::Idle) => Err(Refusal::NoCall),
-            Some(Stage::N6 | Stage::N7 { .. } | Stage::N8 { .. }) => self.take_step(station),
-            Some(_) => self.add_step(station),
-        }
-    }
-
-    // The rows of an add.
-    fn add_step(&mut self, station: usize) -> Result<Progress, Refusal>
-        requires { (station < self.old.stations) × (adds_now (slice_index_or self.old.stages station Stage.Idle) ≡ true) }
-        ensures { (result, view self.new) ≡ turns (view self.old) station }
-    {
-        let places = self.places;
-        let stage = &mut self.stages[station];
-        match *stage {
-            Stage::N1 { index } => {
-                if self.tail == self.limit {
-                    return Err(Refusal::AtLimit);
-                }
-                *stage = Stage::N2 {
-                    index,
-                    ticket: self.tail,
-                };
-            }
-            Stage::N2 { index, ticket } => {
-                let word = self.words[ticket % places];
-                match age_of(places, word, ticket) {
-                    Age::Current => *stage = Stage::N3 { index, ticket },
-                    Age::Previous => *stage = Stage::N4 {
-                        index,
-                        ticket,
-                        word,
-                    },
-                    Age::Other => *stage = Stage::N1 { index },
-                }
-            }
-            Stage::N3 { index, ticket } => {
-                compare_and_set(&mut self.tail, ticket, ticket + 1);
-                *stage = Stage::N1 { index };
-            }
-            Stage::N4 {
+        let word = self.word(ticket);
+        match self.age(word, ticket) {
+            Some(0) => going(Stage::N3 { index, ticket }),
+            Some(1) => going(Stage::N4 {
                 index,
                 ticket,
                 word,
-            } => {
-                let new = places * cycle(places, ticket) + index;
-                if compare_and_set(&mut self.words[ticket % places], word, new) {
-                    *stage = Stage::N5 { ticket };
-                } else {
-                    *stage = Stage::N1 { index };
-                }
-            }
-            Stage::N5 { ticket } => {
-                compare_and_set(&mut self.tail, ticket, ticket + 1); // or another add has moved it
-                *stage = Stage::Idle;
-                return Ok(Progress::Added);
-            }
-            _ => unreachable(),
+            }),
+            _ => going(Stage::N1 { index }),
         }
-        Ok(Progress::Going)
     }
 
-    // The rows of a take.
-    fn take_step(&mut self, station: usize) -> Result<Progress, Refusal>
-        requires { (station < self.old.stations) × (takes_now (slice_index_or self.old.stages station Stage.Idle) ≡ true) }
-        ensures { (result, view self.new) ≡ turns (view self.old) station }
+    // N4
+    fn write(&mut self, index: usize, ticket: usize, word: usize) -> Row<Stage>
+        requires { (index < self.old.places) × (ticket < 999999999) }
+        ensures { TellsAlways steps (view self.old) (N4 index ticket word) result (view self.new) }
     {
-        let places = self.places;
-        let stage = &mut self.stages[station];
-        match *stage {
-            Stage::N6 => {
-                if self.head == self.limit {
-                    return Err(Refusal::AtLimit);
-                }
-                *stage = Stage::N7 { ticket: self.head };
-            }
-            Stage::N7 { ticket } => {
-                let word = self.words[ticket % places];
-                match age_of(places, word, ticket) {
-                    Age::Current => *stage = Stage::N8 { ticket, word },
-                    Age::Previous => {
-                        *stage = Stage::Idle;
-                        return Ok(Progress::Taken(None));
-                    }
-                    Age::Other => *stage = Stage::N6,
-                }
-            }
-            Stage::N8 { ticket, word } => {
-                if compare_and_set(&mut self.head, ticket, ticket + 1) {
-                    *stage = Stage::Idle;
-                    return Ok(Progress::Taken(Some(word % places)));
-                }
-                *stage = Stage::N6;
-            }
-            _ => unreachable(),
+        let new = self.places * self.cycle(ticket) + index;
+        if compare_and_set(&mut self.words[ticket % self.places], word, new) {
+            going(Stage::N5 { ticket })
+        } else {
+            going(Stage::N1 { index })
         }
-        Ok(Progress::Going)
+    }
+
+    // N7
+    fn load_to_take(&self, ticket: usize) -> Row<Stage>
+        ensures { TellsAlways steps (view self.now) (N7 ticket) result (view self.now) }
+    {
+        let word = self.word(ticket);
+        match self.age(word, ticket) {
+            Some(0) => going(Stage::N8 { ticket, word }),
+            Some(1) => Ok((Progress::Taken(None), Stage::Idle)),
+            _ => going(Stage::N6),
+        }
     }
 }

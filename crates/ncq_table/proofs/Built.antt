@@ -1,12 +1,13 @@
 -- From what a call changes to the model that the ring stands for after it.
-use Rattle.std.proofs.Common.{◌≡◌, ℕ, ◌+◌, ◌<◌, ◌≤◌, Some, Ok, sym, refl, ap, ◌∙◌, subst, subst₂, ⊎_elim, mod-lt, arith}
+use Rattle.std.proofs.Common.{◌≡◌, ℕ, ◌+◌, ◌<◌, ◌≤◌, ◌⊎◌, Some, Ok, sym, refl, ◌∙◌, subst, inl, inr, mod-lt, arith}
 use Rattle.std.proofs.lemmas.List.{length-set, get_or-set_same, get_or-set_other}
-use Rattle.std.proofs.lemmas.Bool.{cases_eq}
 use Rattle.ring.specs.declared.Progress.{Progress}
 use Rattle.ring.specs.Model.{Doing, adding, Model, EachOnce}
-use Rattle.ring.specs.Meaning.{Goes, AddMark, TakeMark, MayTurn, Turned, Begun}
+use Rattle.ring.specs.Meaning.{Goes, AddMark, TakeMark, Turned, Begun}
 use Rattle.ring.specs.Cells.{put}
 use Rattle.ring.proofs.Entries.{put_same, put_other}
+use Rattle.ring.proofs.Steps.{by_station, one_still}
+use Rattle.ring.proofs.Models as models
 use Rattle.ncq_table.specs.declared.Stage.{Stage}
 use Rattle.ncq_table.specs.declared.Stage.TheVariants.{Idle}
 use Rattle.ring.specs.Tables.{moved}
@@ -42,62 +43,32 @@ each_once q m h = record {
     writer : (s i f : ℕ) → m.doing s ≡ adding i f → (i < mem.places) × Absent mem h.end i
     writer s i f p = writes_fits mem h.end (stage q s) i (h.sound.fits s) (writing s i f p)
 
--- a call of station s has left memory m', step st, and the model with d and the lone turns c
-module _ (q : State) (m : Model) (h : Stands q m) (s : ℕ) (here : s < q.stations) (m' : Memory) (st : Stage) (d : Doing) (c : ℕ → ℕ) where
-  abbrev pub after : Model
-  after = record {
-    places = m.places;
-    stations = m.stations;
-    limit = m.limit;
-    under = pair m';
-    add_mark = m'.tail;
-    take_mark = m'.head;
-    doing = put m.doing s d;
-    lone = c;
-  }
+-- a call of station s has left memory m' and step st
+module _ (q : State) (m : Model) (h : Stands q m) (s : ℕ) (here : s < q.stations) (m' : Memory) (st : Stage) where
+  abbrev at' : ℕ → Stage
+  at' = stage (moved q s m' st)
 
-  pub stage_mine : (r : ℕ) → r ≡ s → stage (moved q s m' st) r ≡ st
-  stage_mine r e = ap (λ x. stage (moved q s m' st) x) e ∙ get_or-set_same q.stages s st Idle (omega (arith, h.sound.table_room))
+  stage_mine : at' s ≡ st
+  stage_mine = get_or-set_same q.stages s st Idle (omega (arith, h.sound.table_room))
 
-  pub stage_other : (r : ℕ) → (r ≡ s → ⊥) → stage (moved q s m' st) r ≡ stage q r
+  stage_other : (r : ℕ) → (r ≡ s → ⊥) → at' r ≡ stage q r
   stage_other r e = get_or-set_other q.stages s r st Idle e
 
-  doing_mine : (r : ℕ) → r ≡ s → put m.doing s d r ≡ d
-  doing_mine r e = ap (put m.doing s d) e ∙ put_same m.doing s d
-
-  -- by the station itself, and by each other
-  by_station : (P : ℕ → Stage → Doing → Type 0) → P s st d → ((r : ℕ) → (r ≡ s → ⊥) → P r (stage q r) (m.doing r)) →
-      (r : ℕ) → P r (stage (moved q s m' st) r) (put m.doing s d r)
-  by_station P mine others r = ⊎_elim
-      (λ e. subst₂ (P r) (sym (stage_mine r e)) (sym (doing_mine r e)) (subst (λ x. P x st d) (sym e) mine))
-      (λ e. subst₂ (P r) (sym (stage_other r e)) (sym (put_other m.doing s d r e)) (others r e))
-      (cases_eq r s)
-
-  -- where the call is to write no other index than it was
-  pub still_one_writer : ((i : ℕ) → writes st ≡ Some i → writes (stage q s) ≡ Some i) →
-      (r t i : ℕ) → writes (stage (moved q s m' st) r) ≡ Some i → writes (stage (moved q s m' st) t) ≡ Some i → r ≡ t
-  still_one_writer less r t i w v = h.sound.one_writer r t i (wrote r w) (wrote t v)
-    where
-      wrote : (r : ℕ) → writes (stage (moved q s m' st) r) ≡ Some i → writes (stage q r) ≡ Some i
-      wrote r w = ⊎_elim
-          (λ e. ap (λ x. writes (stage q x)) e ∙ less i (sym (ap writes (stage_mine r e)) ∙ w))
-          (λ e. sym (ap writes (stage_other r e)) ∙ w)
-          (cases_eq r s)
-
-  module _ (end' : ℕ) (places_stay : m'.places ≡ q.memory.places) (shared : Shared m' end')
+  -- the model with d and the lone turns c
+  module _ (d : Doing) (c : ℕ → ℕ) (end' : ℕ) (places_stay : m'.places ≡ q.memory.places) (shared : Shared m' end')
       (fits_mine : Fits m' end' st) (fits_others : (r : ℕ) → (r ≡ s → ⊥) → Fits m' end' (stage q r))
       (does_mine : Does m' st d) (does_others : (r : ℕ) → (r ≡ s → ⊥) → Does m' (stage q r) (m.doing r))
-      (one_writer : (r t i : ℕ) → writes (stage (moved q s m' st) r) ≡ Some i → writes (stage (moved q s m' st) t) ≡ Some i → r ≡ t)
+      (writes_from : (i : ℕ) → writes st ≡ Some i → (writes (stage q s) ≡ Some i) ⊎ ((r : ℕ) → writes (stage q r) ≡ Some i → ⊥))
       (soon_mine : c s + left m' end' st ≤ 9) (soon_others : (r : ℕ) → (r ≡ s → ⊥) → c r + left m' end' (stage q r) ≤ 9) where
-    pub built : Stands (moved q s m' st) after
+    pub built : Stands (moved q s m' st) (models.after m s d (pair m') m'.tail m'.head c)
     built = record {
       end = end';
       sound = record {
         shared = shared;
         table_room = rw length-set h.sound.table_room;
         beyond = λ r l. stage_other r (λ e. omega arith) ∙ h.sound.beyond r l;
-        fits = by_station (λ r x y. Fits m' end' x) fits_mine fits_others;
-        one_writer = one_writer;
+        fits = by_station (stage q) at' s st stage_mine stage_other (λ r x. Fits m' end' x) fits_mine fits_others;
+        one_writer = one_still (stage q) at' s st stage_mine stage_other writes h.sound.one_writer writes_from;
       };
       places = h.places ∙ sym places_stay;
       stations = h.stations;
@@ -105,17 +76,16 @@ module _ (q : State) (m : Model) (h : Stands q m) (s : ℕ) (here : s < q.statio
       pairs = λ t. refl;
       adds_at = refl;
       takes_at = refl;
-      does = by_station (λ r x y. Does m' x y) does_mine does_others;
-      ends_soon = by_station (λ r x y. c r + left m' end' x ≤ 9) soon_mine soon_others;
+      does = by_station (stage q) at' s st stage_mine stage_other (λ r x. Does m' x (put m.doing s d r))
+          (subst (Does m' st) (sym (put_same m.doing s d)) does_mine)
+          (λ r e. subst (Does m' (stage q r)) (sym (put_other m.doing s d r e)) (does_others r e));
+      ends_soon = by_station (stage q) at' s st stage_mine stage_other (λ r x. c r + left m' end' x ≤ 9) soon_mine soon_others;
     }
 
 -- an accepted turn
 module _ (q : State) (m : Model) (h : Stands q m) (s : ℕ) (here : s < q.stations) (a : Progress) (m' : Memory) (st : Stage) (d : Doing) where
-  abbrev pub counts : ℕ → ℕ
-  counts = put (λ r. 0) s (m.lone s + 1)
-
   abbrev pub then : Model
-  then = after q m h s here m' st d counts
+  then = models.then m s d (pair m') m'.tail m'.head
 
   -- what a row of the table has to show
   pub record RowShows (end' : ℕ) : Type 0 where
@@ -133,58 +103,39 @@ module _ (q : State) (m : Model) (h : Stands q m) (s : ℕ) (here : s < q.statio
     pub takes : TakeMark m s a then
 
   pub row : (end' : ℕ) → RowShows end' → Turned Stands m s (Ok a, moved q s m' st)
-  row end' p = (then, (may_turn, stands))
+  row end' p = (
+    then,
+    (
+      models.may_turn m s d (pair m') m'.tail m'.head a (omega (arith, h.stations)) p.goes p.adds p.takes (omega (arith, h.ends_soon s, p.sooner)) (each_once (moved q s m' st) then stands),
+      stands,
+    ),
+  )
     where
       stands : Stands (moved q s m' st) then
-      stands = built q m h s here m' st d counts end' p.places_stay p.shared p.fits_mine p.fits_others p.does_mine
+      stands = built q m h s here m' st d (models.counts m s) end' p.places_stay p.shared p.fits_mine p.fits_others p.does_mine
           (λ r e. does_on q.memory m' p.tail_on p.head_on (stage q r) (m.doing r) (h.does r))
-          (still_one_writer q m h s here m' st d counts p.writes_less)
+          (λ i w. inl (p.writes_less i w))
           (omega (arith, put_same (λ r. 0) s (m.lone s + 1), h.ends_soon s, p.sooner))
           (λ r e. omega (arith, put_other (λ r. 0) s (m.lone s + 1) r e, left_most m' end' (stage q r)))
-
-      may_turn : MayTurn m s a then
-      may_turn = record {
-        station = omega (arith, h.stations);
-        goes = p.goes;
-        others = λ r e. put_other m.doing s d r e;
-        sizes = record { places = refl; stations = refl; limit = refl };
-        adds = p.adds;
-        takes = p.takes;
-        one_more = put_same (λ r. 0) s (m.lone s + 1);
-        others_alone_no_more = λ r e. put_other (λ r. 0) s (m.lone s + 1) r e;
-        soon = λ g. omega (arith, put_same (λ r. 0) s (m.lone s + 1), h.ends_soon s, p.sooner);
-        indices = each_once (moved q s m' st) then stands;
-      }
 
 -- an accepted begin
 module _ (q : State) (m : Model) (h : Stands q m) (s : ℕ) (here : s < q.stations) (st : Stage) (d : Doing) where
   abbrev pub begun : Model
-  begun = after q m h s here q.memory st d (put m.lone s 0)
+  begun = models.begun m s d (pair q.memory) q.memory.tail q.memory.head
 
   pub begins : stage q s ≡ Idle → Fits q.memory h.end st → Does q.memory st d →
-      ((r t i : ℕ) → writes (stage (moved q s q.memory st) r) ≡ Some i → writes (stage (moved q s q.memory st) t) ≡ Some i → r ≡ t) →
+      ((i : ℕ) → writes st ≡ Some i → (r : ℕ) → writes (stage q r) ≡ Some i → ⊥) →
       (m' : Model) × (Begun m s d m' × Stands (moved q s q.memory st) m')
-  begins at fits does one = (
+  begins at fits does new = (
     begun,
     (
-      record {
-        station = omega (arith, h.stations);
-        was_idle = subst (λ x. Does q.memory x (m.doing s)) at (h.does s);
-        does_now = put_same m.doing s d;
-        others = λ r e. put_other m.doing s d r e;
-        sizes = record { places = refl; stations = refl; limit = refl };
-        pairs = λ t. sym (h.pairs t);
-        adds = sym h.adds_at;
-        takes = sym h.takes_at;
-        none_yet = put_same m.lone s 0;
-        counts_stay = λ r e. put_other m.lone s 0 r e;
-        indices = each_once (moved q s q.memory st) begun stands;
-      },
+      models.has_begun m s d (pair q.memory) q.memory.tail q.memory.head (omega (arith, h.stations)) (subst (λ x. Does q.memory x (m.doing s)) at (h.does s))
+          (λ t. sym (h.pairs t)) (sym h.adds_at) (sym h.takes_at) (each_once (moved q s q.memory st) begun stands),
       stands,
     ),
   )
     where
       stands : Stands (moved q s q.memory st) begun
-      stands = built q m h s here q.memory st d (put m.lone s 0) h.end refl h.sound.shared fits (λ r e. h.sound.fits r) does (λ r e. h.does r) one
+      stands = built q m h s here q.memory st d (put m.lone s 0) h.end refl h.sound.shared fits (λ r e. h.sound.fits r) does (λ r e. h.does r) (λ i w. inr (new i w))
           (omega (arith, put_same m.lone s 0, left_most q.memory h.end st))
           (λ r e. omega (arith, put_other m.lone s 0 r e, h.ends_soon r))

@@ -7,3 +7,4 @@ mod Turns
 mod Begins
 mod Makes
 pub mod Meaning
+pub mod Bounds

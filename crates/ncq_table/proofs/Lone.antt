@@ -8,14 +8,7 @@ use Rattle.ncq_table.specs.Stands.{left}
 
 pub left_most : (m : Memory) (e : ℕ) (st : Stage) → left m e st ≤ 9
 left_most m e Idle = omega arith
-left_most m e (N1 i) = grind (arith, nat_tests)
-left_most m e (N2 i t) = grind (arith, nat_tests)
-left_most m e (N3 i t) = grind (arith, nat_tests)
-left_most m e (N4 i t w) = grind (arith, nat_tests)
-left_most m e (N5 t) = omega arith
-left_most m e N6 = omega arith
-left_most m e (N7 h) = grind (arith, nat_tests)
-left_most m e (N8 h w) = grind (arith, nat_tests)
+left_most m e st = grind (arith, nat_tests)
 
 module _ (m : Memory) (e i t : ℕ) where
   pub n1_n2 : left m e (N2 i m.tail) < left m e (N1 i)

@@ -1,20 +1,19 @@
 -- A new ring stands for a new model.
-use Rattle.std.proofs.Common.{◌≡◌, ℕ, ◌+◌, ◌<◌, ◌≤◌, cond, ltb, List, length, get_or, replicate, Some, None, Ok, Err, Result, sym, refl, ap, ◌∙◌, subst, ⊎_elim, mod-lt, mod-eq_of_lt, arith}
+use Rattle.std.proofs.Common.{◌≡◌, ℕ, ◌+◌, ◌<◌, ◌≤◌, cond, ltb, List, length, get_or, replicate, Some, None, sym, refl, ap, ◌∙◌, subst, ⊎_elim, mod-lt, mod-eq_of_lt, arith}
 use native.Mathlib.Nat.{div-eq_of_lt, zero-div}
 use Rattle.std.proofs.lemmas.List.FromFn.{length-map-range_with_len, get_or-map-range_with_len}
 use Rattle.std.proofs.lemmas.List.{length-replicate, get_or-replicate}
 use Rattle.std.proofs.lemmas.Bool.{cases_lt, cond-true, lt-ltb}
-use Rattle.ring.specs.declared.Refusal.{Refusal}
-use Rattle.ring.specs.Sizes.{Sized, make_checked, Checked}
+use Rattle.ring.specs.Sizes.{Sized}
 use Rattle.ring.specs.Model.{idle, Model}
-use Rattle.ring.specs.Meaning.{New, MadeEmpty, MadeFull}
+use Rattle.ring.specs.Meaning.{New, NoPairs, AllPairs, MadeEmpty, MadeFull}
 use Rattle.ring.proofs.Entries.{get_or-same}
-use Rattle.ring.proofs.Sizes.{checked, sized_low, sized_high}
+use Rattle.ring.proofs.Checks.{sized_low, sized_high}
+use Rattle.ring.proofs.Models as models
+use Rattle.ring.proofs.Calls.{made_means}
 use Rattle.ncq_table.specs.declared.Stage.TheVariants.{Idle}
-use Rattle.ring.specs.Tables.{made}
 use Rattle.ncq_table.specs.Table.{cycle, slot, index, join, Memory, word, State, new_ring, full_words, empty, full}
-use Rattle.ncq_table.specs.Stands.{pair, Fits, writes, Does, left, Shared, Stands}
-use Rattle.ring.proofs.Options.{some_none}
+use Rattle.ncq_table.specs.Stands.{pair, Fits, Does, left, Shared, Stands}
 use Rattle.ncq_table.proofs.Pairs.{pair_there, pair_passed, pair_cycle}
 use Rattle.ncq_table.proofs.Window.{filled_low}
 use Rattle.ncq_table.proofs.Built.{each_once}
@@ -28,16 +27,7 @@ module _ (n k l h : ℕ) (ws : List ℕ) (sized : Sized n) (few : k ≤ n) (low 
   q = new_ring n k l h ws
 
   abbrev pub new : Model
-  new = record {
-    places = n;
-    stations = k;
-    limit = l;
-    under = pair q.memory;
-    add_mark = n;
-    take_mark = h;
-    doing = λ s. idle;
-    lone = λ s. 0;
-  }
+  new = models.new n k l (pair q.memory) n h
 
   pub new_stands : Stands q new
   new_stands = record {
@@ -47,7 +37,7 @@ module _ (n k l h : ℕ) (ws : List ℕ) (sized : Sized n) (few : k ≤ n) (low 
       table_room = omega (arith, length-replicate 64 Idle, sized_high n sized);
       beyond = λ s g. all_idle s;
       fits = λ s. subst (Fits q.memory n) (sym (all_idle s)) tt;
-      one_writer = λ s r i w v. absurd (some_none i (sym w ∙ ap writes (all_idle s)));
+      one_writer = λ s r i w v. absurd (cc (all_idle s));
     };
     places = refl;
     stations = refl;
@@ -59,16 +49,8 @@ module _ (n k l h : ℕ) (ws : List ℕ) (sized : Sized n) (few : k ≤ n) (low 
     ends_soon = λ s. subst (λ x. 0 + left q.memory n x ≤ 9) (sym (all_idle s)) (omega arith);
   }
 
-  pub is_new : New n k l new
-  is_new = record {
-    places = refl;
-    stations = refl;
-    limit = refl;
-    idle_all = λ s. refl;
-    add_low = omega arith;
-    take_low = omega arith;
-    indices = each_once q new new_stands;
-  }
+  pub new_holds : (filled : Model → Type 0) → filled new → (m : Model) × (New n k l m × filled m × Stands q m)
+  new_holds filled p = (new, (models.is_new n k l (pair q.memory) n h (omega arith) (omega arith) (each_once q new new_stands), p, new_stands))
 
 -- empty: all words 0
 
@@ -131,29 +113,9 @@ module _ (n : ℕ) (sized : Sized n) (k l : ℕ) where
   all_pairs i a = (i, pair_there full_memory i (omega arith) (ap (cycle n) (full_word i a)) ∙ ap Some (full_index i a))
 
 pub means_empty : (n k l : ℕ) → MadeEmpty Stands n k l (empty n k l)
-means_empty n k l = go (make_checked n k l) (checked n k l)
-  where
-    go : (r : Result (Unit {0}) Refusal) → Checked n k l r → MadeEmpty Stands n k l (made r (new_ring n k l n (replicate 64 0)))
-    go (Ok u) c =
-        let sh = empty_shared n c.0 k l in (
-          c,
-          (
-            new n k l n (replicate 64 0) c.0 c.1.1 (omega arith) sh,
-            (is_new n k l n (replicate 64 0) c.0 c.1.1 (omega arith) sh, no_pairs n c.0 k l, new_stands n k l n (replicate 64 0) c.0 c.1.1 (omega arith) sh),
-          ),
-        )
-    go (Err e) c = c
+means_empty n k l = made_means Stands NoPairs n k l _
+    (λ sized crewed. new_holds n k l n (replicate 64 0) sized crewed.1 (omega arith) (empty_shared n sized k l) NoPairs (no_pairs n sized k l))
 
 pub means_full : (n k l : ℕ) → MadeFull Stands n k l (full n k l)
-means_full n k l = go (make_checked n k l) (checked n k l)
-  where
-    go : (r : Result (Unit {0}) Refusal) → Checked n k l r → MadeFull Stands n k l (made r (new_ring n k l 0 (full_words n)))
-    go (Ok u) c =
-        let sh = full_shared n c.0 k l in (
-          c,
-          (
-            new n k l 0 (full_words n) c.0 c.1.1 (omega arith) sh,
-            (is_new n k l 0 (full_words n) c.0 c.1.1 (omega arith) sh, all_pairs n c.0 k l, new_stands n k l 0 (full_words n) c.0 c.1.1 (omega arith) sh),
-          ),
-        )
-    go (Err e) c = c
+means_full n k l = made_means Stands AllPairs n k l _
+    (λ sized crewed. new_holds n k l 0 (full_words n) sized crewed.1 (omega arith) (full_shared n sized k l) AllPairs (all_pairs n sized k l))

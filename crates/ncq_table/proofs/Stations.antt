@@ -1,7 +1,8 @@
 -- What a station's step says of what it does, and what a change of the memory leaves of it.
-use Rattle.std.proofs.Common.{◌≡◌, ℕ, ◌+◌, ◌<◌, ◌≤◌, Bool, cond, ◌&&◌, eqb, leb, Some, None, sym, refl, ap, ◌∙◌, ⊎_elim, mod-lt, arith}
+use Rattle.std.proofs.Common.{◌≡◌, ℕ, ◌+◌, ◌<◌, ◌≤◌, Bool, Some, None, sym, refl, ap, ◌∙◌, ⊎_elim, mod-lt, arith}
 use Rattle.std.proofs.lemmas.List.{length-set, get_or-set_same, get_or-set_other}
-use Rattle.std.proofs.lemmas.Bool.{cases_lt, cases_eq, le-leb}
+use Rattle.std.proofs.lemmas.Bool.Decides.{nat_tests}
+use Rattle.std.proofs.lemmas.Bool.{cases_lt, cases_eq}
 use Rattle.ring.specs.Model.{Doing, idle, adding, seeking}
 use Rattle.ring.proofs.Tickets.{same_ticket, slots_differ, join-cycle, join-index}
 use Rattle.ncq_table.specs.declared.Stage.{Stage}
@@ -15,88 +16,42 @@ use Rattle.ncq_table.proofs.Window.{same_word, filled_low, at_end, fewer}
 
 pub adding_writes : (m : Memory) (st : Stage) (d : Doing) (i f : ℕ) → Does m st d → d ≡ adding i f → writes st ≡ Some i
 adding_writes m Idle d i f p e = cc
-adding_writes m (N1 j) d i f p e = let h = p.2 in cc
-adding_writes m (N2 j t) d i f p e = let h = p.2 in cc
-adding_writes m (N3 j t) d i f p e = let h = p.2 in cc
-adding_writes m (N4 j t w) d i f p e = let h = p.2 in cc
 adding_writes m (N5 t) d i f p e = cc
-adding_writes m N6 d i f p e = let h = p.2 in cc
-adding_writes m (N7 t) d i f p e = let h = p.2 in cc
-adding_writes m (N8 t w) d i f p e = let h = p.2 in cc
+adding_writes m st d i f p e = let h = p.2 in cc
 
 -- nobody ever holds a ticket
 pub none_holds : (m : Memory) (st : Stage) (d : Doing) (f t : ℕ) (b : Bool) → Does m st d → d ≡ seeking f (Some t) b → ⊥
-none_holds m st d f t b p e = let z : ◌≡◌ {A = ℕ} 0 1 = go st p in omega arith
-  where
-    go : (st : Stage) → Does m st d → ◌≡◌ {A = ℕ} 0 1
-    go Idle p = cc
-    go (N1 j) p = let h = p.2 in cc
-    go (N2 j t) p = let h = p.2 in cc
-    go (N3 j t) p = let h = p.2 in cc
-    go (N4 j t w) p = let h = p.2 in cc
-    go (N5 t) p = cc
-    go N6 p = let h = p.2 in cc
-    go (N7 t) p = let h = p.2 in cc
-    go (N8 t w) p = let h = p.2 in cc
+none_holds m Idle d f t b p e = cc
+none_holds m (N5 u) d f t b p e = cc
+none_holds m st d f t b p e = let h = p.2 in cc
 
 pub idle_only : (m : Memory) (st : Stage) (d : Doing) → Does m st d → d ≡ idle → st ≡ Idle
 idle_only m Idle d p e = refl
-idle_only m (N1 j) d p e = let h = p.2 in cc
-idle_only m (N2 j t) d p e = let h = p.2 in cc
-idle_only m (N3 j t) d p e = let h = p.2 in cc
-idle_only m (N4 j t w) d p e = let h = p.2 in cc
 idle_only m (N5 t) d p e = cc
-idle_only m N6 d p e = let h = p.2 in cc
-idle_only m (N7 t) d p e = let h = p.2 in cc
-idle_only m (N8 t w) d p e = let h = p.2 in cc
+idle_only m st d p e = let h = p.2 in cc
 
 pub writes_fits : (m : Memory) (e : ℕ) (st : Stage) (i : ℕ) → Fits m e st → writes st ≡ Some i → (i < m.places) × Absent m e i
-writes_fits m e st i p w = go st p w
-  where
-    at : (j : ℕ) → Some j ≡ Some i → (j < m.places) → Absent m e j → (i < m.places) × Absent m e i
-    at j q l a = let r : j ≡ i = cc in rw (← r) (l, a)
-
-    no_index : None ≡ Some i → (i < m.places) × Absent m e i
-    no_index q = absurd (let z : ◌≡◌ {A = ℕ} 0 1 = cc in omega arith)
-
-    go : (st : Stage) → Fits m e st → writes st ≡ Some i → (i < m.places) × Absent m e i
-    go Idle p w = no_index w
-    go (N1 j) p w = at j w p.0 p.1
-    go (N2 j t) p w = at j w p.0 p.1
-    go (N3 j t) p w = at j w p.0 p.1
-    go (N4 j t v) p w = at j w p.0 p.1
-    go (N5 t) p w = no_index w
-    go N6 p w = no_index w
-    go (N7 t) p w = no_index w
-    go (N8 t v) p w = no_index w
+writes_fits m e (N1 j) i p w = let r : j ≡ i = cc in rw (← r) (p.0, p.1)
+writes_fits m e (N2 j t) i p w = let r : j ≡ i = cc in rw (← r) (p.0, p.1)
+writes_fits m e (N3 j t) i p w = let r : j ≡ i = cc in rw (← r) (p.0, p.1)
+writes_fits m e (N4 j t v) i p w = let r : j ≡ i = cc in rw (← r) (p.0, p.1)
+writes_fits m e st i p w = absurd (cc)
 
 -- changes of the memory
 
 -- the marks have not fallen
 pub does_on : (m m' : Memory) → m.tail ≤ m'.tail → m.head ≤ m'.head → (st : Stage) (d : Doing) → Does m st d → Does m' st d
-does_on m m' a b Idle d p = p
 does_on m m' a b (N1 i) d p = (p.0, omega (arith, p.1), p.2)
-does_on m m' a b (N2 i t) d p = p
-does_on m m' a b (N3 i t) d p = p
-does_on m m' a b (N4 i t w) d p = p
-does_on m m' a b (N5 t) d p = p
 does_on m m' a b N6 d p = (p.0, omega (arith, p.1), p.2)
-does_on m m' a b (N7 t) d p = p
-does_on m m' a b (N8 t w) d p = p
+does_on m m' a b st d p = p
 
 abbrev pub tail_up : Memory → Memory
 tail_up m = record { places = m.places; head = m.head; tail = m.tail + 1; words = m.words }
 
 pub fits_tail : (m : Memory) (e : ℕ) (st : Stage) → Fits m e st → Fits (tail_up m) e st
-fits_tail m e Idle p = p
-fits_tail m e (N1 i) p = p
 fits_tail m e (N2 i t) p = (p.0, p.1, omega (arith, p.2))
-fits_tail m e (N3 i t) p = p
 fits_tail m e (N4 i t w) p = (p.0, p.1, omega (arith, p.2), p.3)
-fits_tail m e (N5 t) p = p
-fits_tail m e N6 p = p
-fits_tail m e (N7 t) p = p
-fits_tail m e (N8 t w) p = p
+fits_tail m e st p = p
 
 abbrev pub head_up : Memory → Memory
 head_up m = with_head m (m.head + 1)
@@ -108,15 +63,13 @@ fits_head m e st p = go st p
     later i a u l = a u (omega arith)
 
     go : (st : Stage) → Fits m e st → Fits (head_up m) e st
-    go Idle p = p
     go (N1 i) p = (p.0, later i p.1)
     go (N2 i t) p = (p.0, later i p.1, p.2)
     go (N3 i t) p = (p.0, later i p.1, p.2)
     go (N4 i t w) p = (p.0, later i p.1, p.2, p.3)
-    go (N5 t) p = p
-    go N6 p = p
     go (N7 t) p = omega (arith, p)
     go (N8 t w) p = (omega (arith, p.0), p.1, λ q. absurd (omega (arith, p.0)))
+    go st p = p
 
 -- the word at e, the next ticket, has been written with index i
 module _ (m : Memory) (e : ℕ) (h : Shared m e) (i : ℕ) (small : i < m.places) (absent : Absent m e i) (level : e ≤ m.tail) where
@@ -192,15 +145,13 @@ module _ (m : Memory) (e : ℕ) (h : Shared m e) (i : ℕ) (small : i < m.places
           (cases_lt t e)
 
       go : (st : Stage) → (writes st ≡ Some i → ⊥) → Fits m e st → Fits word_in (e + 1) st
-      go Idle o p = p
       go (N1 j) o p = (p.0, later j o p.1)
       go (N2 j t) o p = (p.0, later j o p.1, p.2)
       go (N3 j t) o p = (p.0, later j o p.1, omega (arith, p.2))
       go (N4 j t w) o p = (p.0, later j o p.1, p.2, p.3)
       go (N5 t) o p = omega (arith, p)
-      go N6 o p = p
-      go (N7 t) o p = p
       go (N8 t w) o p = (p.0, p.1, same t w p.1 p.2)
+      go st o p = p
 
   pub pair_before : pair m e ≡ None
   pair_before = pair_cycle m e (λ c. omega (arith, filled_low m e h e c))
@@ -210,7 +161,7 @@ module _ (m : Memory) (e : ℕ) (h : Shared m e) (i : ℕ) (small : i < m.places
 
   pub pair_rest : (t : ℕ) → (t ≡ e → ⊥) → pair word_in t ≡ pair m t
   pair_rest t d = ⊎_elim same_slot
-      (λ o. ap (λ w. cond (leb m.head t && eqb (cycle m.places w) (cycle m.places t)) (Some (index m.places w)) None) (word_elsewhere t o))
+      (λ o. cc (word_elsewhere t o))
       (cases_eq (slot m.places t) (slot m.places e))
     where
       same_slot : slot m.places t ≡ slot m.places e → pair word_in t ≡ pair m t
@@ -252,8 +203,4 @@ pub pair_gone : (m : Memory) → pair (head_up m) m.head ≡ None
 pair_gone m = pair_passed (head_up m) m.head (omega arith)
 
 pub pair_stays : (m : Memory) (t : ℕ) → (t ≡ m.head → ⊥) → pair (head_up m) t ≡ pair m t
-pair_stays m t d = ⊎_elim
-    (λ low. pair_passed (head_up m) t (omega arith) ∙ sym (pair_passed m t low))
-    (λ k. ap (λ b. cond (b && eqb (cycle m.places (word m t)) (cycle m.places t)) (Some (index m.places (word m t))) None)
-    (le-leb (m.head + 1) t (omega arith) ∙ sym (le-leb m.head t k)))
-    (cases_lt t m.head)
+pair_stays m t d = grind (arith, nat_tests)

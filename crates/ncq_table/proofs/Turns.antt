@@ -1,18 +1,18 @@
 -- Each row of the table does what a ring may do.
-use Rattle.std.proofs.Common.{◌≡◌, ℕ, ◌+◌, ◌<◌, ◌≤◌, false, eqb, ltb, Some, None, Ok, sym, refl, ap, ◌∙◌, subst, inl, inr, arith}
-use Rattle.std.proofs.lemmas.Bool.{cond_both, eqb-true, eqb-false, ltb-true, ltb-false}
+use Rattle.std.proofs.Common.{◌≡◌, ℕ, ◌+◌, ◌<◌, ◌≤◌, false, eqb, Some, None, Ok, sym, refl, ap, ◌∙◌, subst, inl, inr, arith}
+use Rattle.std.proofs.lemmas.Bool.{cond_both, eqb-true, eqb-false}
 use Rattle.ring.specs.declared.Progress.{Progress}
 use Rattle.ring.specs.declared.Progress.TheVariants.{Going, Added, Taken}
 use Rattle.ring.specs.Model.{Doing, idle, adding, closing, seeking, Model}
 use Rattle.ring.specs.Meaning.{SamePairs, Leaves, AddGoes, CloseGoes, Ticket, AllHeld, SeekGoes, Goes, AddMark, TakeMark, AtLimit, TurnRefused, Turned}
 use Rattle.ring.proofs.Entries.{put_same, put_other}
 use Rattle.ring.proofs.Leaving.{left_outside}
+use Rattle.ring.proofs.Calls.{turned_means}
 use Rattle.ncq_table.specs.declared.Stage.{Stage}
 use Rattle.ncq_table.specs.declared.Stage.TheVariants.{Idle, N1, N2, N3, N4, N5, N6, N7, N8}
 use Rattle.ring.specs.Tables.{moved, carried}
 use Rattle.ncq_table.specs.Table.{cycle, index, join, Memory, word, move_tail, with_head, with_word, step, State, stage, turns}
 use Rattle.ncq_table.specs.Stands.{Fits, writes, Does, left, Shared, Stands}
-use Rattle.ring.proofs.Options.{some_none}
 use Rattle.ncq_table.proofs.Pairs.{pair_there, pair_is}
 use Rattle.ncq_table.proofs.Window.{filled_low, before_end, near_slot, few}
 use Rattle.ncq_table.proofs.Stations.{none_holds, tail_up, fits_tail, shared_tail, head_up, fits_head, shared_head, pair_gone, pair_stays, word_in, fits_word, shared_word, pair_before, pair_after, pair_rest}
@@ -75,7 +75,7 @@ module _ (q : State) (m : Model) (h : Stands q m) (s : ℕ) (here : s < q.statio
       (λ c. miss (λ p. eqb-false mem.tail t c (sym p)))
 
   no_index : (i : ℕ) → None ≡ Some i → writes (stage q s) ≡ Some i
-  no_index i w = absurd (some_none i (sym w))
+  no_index i w = cc
 
   -- the station's step tells what it does and what its registers say
 
@@ -218,7 +218,7 @@ module _ (q : State) (m : Model) (h : Stands q m) (s : ℕ) (here : s < q.statio
       (λ c'. let last : t ≡ e = before_end mem e sh t (omega (arith, p, sh.head_low)) (eqb-true _ _ c') in
       quiet (Taken None) Idle idle tt refl no_index (sooner_at (N7 t) 0 at (n7_ends mem e 0 t))
       (subst (λ x. Goes m s x (Taken None) (then q m h s here (Taken None) mem Idle idle)) (sym d.2)
-      (SeekGoes.ends_with_none refl (mine (Taken None) mem Idle idle) (λ u. sym (h.pairs u)) (λ u z. absurd (some_none u (sym z))) (inr (bare last)))))
+      (SeekGoes.ends_with_none refl (mine (Taken None) mem Idle idle) (λ u. sym (h.pairs u)) (λ u z. cc) (inr (bare last)))))
       (λ c'. let late : t ≡ mem.head → ⊥ = λ z. near_slot mem e sh t (omega (arith, sh.head_low)) (omega (arith, few mem e sh)) (eqb-false _ _ c) (eqb-false _ _ c') in
       quiet_take d.0 d.2 (N7 t) N6 at (λ i v. v) tt (d.0, omega (arith, d.1, p), refl) (n7_n6 mem e 0 t late)))
     where
@@ -297,6 +297,4 @@ module _ (q : State) (m : Model) (h : Stands q m) (s : ℕ) (here : s < q.statio
   by_step (N8 t w) at = turn_n8 t w at
 
 pub means_turn : (q : State) (s : ℕ) (m : Model) → Stands q m → Turned Stands m s (turns q s)
-means_turn q s m h = cond_both (ltb s q.stations) _ _ (Turned Stands m s)
-    (λ c. by_step q m h s (ltb-true _ _ c) (stage q s) refl)
-    (λ c. TurnRefused.no_station refl (omega (arith, h.stations, ltb-false s q.stations c)))
+means_turn q s m h = turned_means Stands Idle q m s h.stations step (λ c. by_step q m h s c (stage q s) refl)

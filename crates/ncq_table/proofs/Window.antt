@@ -1,7 +1,8 @@
 -- What follows from the shared memory's facts alone.
 use Rattle.std.proofs.Common.{◌≡◌, ℕ, suc, ◌+◌, ◌-◌, ◌<◌, ◌≤◌, get_or, sym, ap, ◌∙◌, subst, ⊎_elim, mod-lt, arith}
+use native.Mathlib.Nat.{add-mod_right, add-div_right}
 use Rattle.std.proofs.lemmas.Bool.{cases_lt}
-use Rattle.ring.proofs.Tickets.{same_ticket, later_cycle, slots_differ, slot_again, cycle_after, in_window}
+use Rattle.ring.proofs.Tickets.{same_ticket, later_cycle, slots_differ, in_window}
 use Rattle.ring.proofs.Pigeonhole.{pigeonhole}
 use Rattle.ring.specs.Cells.{put}
 use Rattle.ring.proofs.Entries.{put_same, put_other}
@@ -43,7 +44,7 @@ module _ (m : Memory) (e : ℕ) (h : Shared m e) where
   at_end = ⊎_elim
       (λ l. absurd (slots_differ n (seat e).0 e (seat e).1 l (seat e).3))
       (λ g. let q : e ≡ (seat e).0 + n = omega (arith, (seat e).2) in
-      omega (arith, (seat e).4, ap (cycle n) q, cycle_after n (seat e).0 h.some_place))
+      omega (arith, (seat e).4, ap (cycle n) q, add-div_right (seat e).0 h.some_place))
       (cases_lt e ((seat e).0 + n))
 
   -- the slots of the last n tickets and of the next are of their ticket's cycle or of the one before
@@ -60,7 +61,7 @@ module _ (m : Memory) (e : ℕ) (h : Shared m e) where
         arith,
         h.some_place,
         h.apart m.head (m.head + n) (omega arith) (omega arith) (omega arith) l
-            (ap (index n) (same_word m m.head (m.head + n) (sym (slot_again n m.head)))),
+            (ap (index n) (same_word m m.head (m.head + n) (sym (add-mod_right m.head n)))),
       )))
       (λ g. g) (cases_lt (m.head + n) e)
 

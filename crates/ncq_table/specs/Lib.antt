@@ -1,3 +1,4 @@
 pub mod Table
 pub mod Stands
 pub mod Example
+pub mod Within

@@ -12,14 +12,14 @@
 -- Stands           the state stands for the model
 --
 -- Assumes nothing.
-use Rattle.std.specs.Prelude.{◌≡◌, ℕ, ◌+◌, ◌<◌, ◌≤◌, false, cond, ◌&&◌, length, Some, None, Option, ◌==◌, ◌≢◌, nat_le}
+use Rattle.std.specs.Prelude.{◌≡◌, ℕ, ◌+◌, ◌<◌, ◌≤◌, false, if◌then◌else◌, ◌&&◌, length, Some, None, Option, ◌==◌, ◌≢◌, nat_le}
 use Rattle.ring.specs.Model.{Doing, idle, adding, closing, seeking, Model}
 use Rattle.ncq_table.specs.declared.Stage.{Stage}
 use Rattle.ncq_table.specs.declared.Stage.TheVariants.{Idle, N1, N2, N3, N4, N5, N6, N7, N8}
 use Rattle.ncq_table.specs.Table.{cycle, index, Memory, word, State, stage}
 
 abbrev pub pair : Memory → ℕ → Option ℕ
-pair m t = cond (nat_le m.head t && cycle m.places (word m t) == cycle m.places t) (Some (index m.places (word m t))) None
+pair m t = if nat_le m.head t && cycle m.places (word m t) == cycle m.places t then Some (index m.places (word m t)) else None
 
 -- index i is in no pair
 abbrev pub Absent : Memory → ℕ → ℕ → Type 0
@@ -68,18 +68,18 @@ Does m (N8 h w) d = SeeksFrom h d
 
 -- an add that begins alone needs four turns, or seven where Tail is still to be moved past the last pair
 abbrev pub add_left : Memory → ℕ → ℕ
-add_left m e = cond (e == m.tail) 4 7
+add_left m e = if e == m.tail then 4 else 7
 
 abbrev pub left : Memory → ℕ → Stage → ℕ
 left m e Idle = 0
 left m e (N1 i) = add_left m e
-left m e (N2 i t) = cond (t == m.tail) (cond (e == m.tail) 3 6) (add_left m e + 2)
-left m e (N3 i t) = cond (t == m.tail) 5 (add_left m e + 1)
-left m e (N4 i t w) = cond (word m t == w) 2 (add_left m e + 1)
+left m e (N2 i t) = if t == m.tail then (if e == m.tail then 3 else 6) else add_left m e + 2
+left m e (N3 i t) = if t == m.tail then 5 else add_left m e + 1
+left m e (N4 i t w) = if word m t == w then 2 else add_left m e + 1
 left m e (N5 t) = 1
 left m e N6 = 3
-left m e (N7 h) = cond (h == m.head) 2 5
-left m e (N8 h w) = cond (h == m.head) 1 4
+left m e (N7 h) = if h == m.head then 2 else 5
+left m e (N8 h w) = if h == m.head then 1 else 4
 
 -- what the memory keeps; e is the ticket after the last pair's
 pub record Shared (m : Memory) (e : ℕ) : Type 0 where

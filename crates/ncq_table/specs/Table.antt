@@ -9,17 +9,16 @@
 -- empty, full      a new ring
 -- adds, takes      what a begin-add and a begin-take do
 -- turns            what a turn does
+-- steps            all that the table says, as one record
 --
 -- Assumes nothing.
-use Rattle.std.specs.Prelude.{ℕ, ◌+◌, ◌*◌, ◌/◌, ◌%◌, Bool, true, false, cond, not, ◌&&◌, List, map, replicate, Some, None, Ok, Err, Result, ◌==◌, nat_le, nat_lt, slice_index, slice_set}
+use Rattle.std.specs.Prelude.{ℕ, ◌+◌, ◌*◌, ◌/◌, ◌%◌, Bool, true, false, if◌then◌else◌, ◌&&◌, List, map, replicate, Some, None, Ok, Err, Result, ◌==◌, nat_le, nat_lt, slice_index, slice_set}
 use Rattle.std.specs.List.{range_with_len}
 use Rattle.ring.specs.declared.Progress.TheVariants.{Going, Added, Taken}
 use Rattle.ring.specs.declared.Refusal.{Refusal}
 use Rattle.ring.specs.declared.Refusal.TheVariants.{NoCall, AtLimit}
-use Rattle.ring.specs.Sizes.{make_checked}
-use Rattle.ring.specs.Scans.{any_below}
 use Rattle.ring.specs.Tables as tables
-use Rattle.ring.specs.Tables.{stage_of, turned, add_begun, take_begun, made}
+use Rattle.ring.specs.Tables.{stage_of, Steps}
 use Rattle.ncq_table.specs.declared.Stage.{Stage}
 use Rattle.ncq_table.specs.declared.Stage.TheVariants.{Idle, N1, N2, N3, N4, N5, N6, N7, N8}
 
@@ -56,7 +55,7 @@ word m t = slice_index m.words (slot m.places t)
 
 -- Tail from t to t + 1, if it is t
 abbrev pub move_tail : Memory → ℕ → Memory
-move_tail m t = cond (m.tail == t) (record { places = m.places; head = m.head; tail = t + 1; words = m.words }) m
+move_tail m t = if m.tail == t then record { places = m.places; head = m.head; tail = t + 1; words = m.words } else m
 
 abbrev pub with_head : Memory → ℕ → Memory
 with_head m h = record { places = m.places; head = h; tail = m.tail; words = m.words }
@@ -73,32 +72,30 @@ Row = tables.Row Memory Stage
 -- N2, the word e loaded at ticket t: of t's cycle, N3; of the cycle before, N4; otherwise N1
 abbrev pub n2 : Memory → ℕ → ℕ → ℕ → Row
 n2 m i t e =
-    cond (cycle m.places e == cycle m.places t) (Ok (Going, m, N3 i t))
-    (cond (cycle m.places e + 1 == cycle m.places t) (Ok (Going, m, N4 i t e))
-    (Ok (Going, m, N1 i)))
+    if cycle m.places e == cycle m.places t then Ok (Going, m, N3 i t)
+    else if cycle m.places e + 1 == cycle m.places t then Ok (Going, m, N4 i t e)
+    else Ok (Going, m, N1 i)
 
 -- N7, the word e loaded at ticket h: of h's cycle, N8; of the cycle before, none; otherwise N6
 abbrev pub n7 : Memory → ℕ → ℕ → Row
 n7 m h e =
-    cond (cycle m.places e == cycle m.places h) (Ok (Going, m, N8 h e))
-    (cond (cycle m.places e + 1 == cycle m.places h) (Ok (Taken None, m, Idle))
-    (Ok (Going, m, N6)))
+    if cycle m.places e == cycle m.places h then Ok (Going, m, N8 h e)
+    else if cycle m.places e + 1 == cycle m.places h then Ok (Taken None, m, Idle)
+    else Ok (Going, m, N6)
 
 -- l is the ticket limit
 abbrev pub step : Memory → ℕ → Stage → Row
 step m l Idle = Err NoCall
-step m l (N1 i) = cond (m.tail == l) (Err AtLimit) (Ok (Going, m, N2 i m.tail))
+step m l (N1 i) = if m.tail == l then Err AtLimit else Ok (Going, m, N2 i m.tail)
 step m l (N2 i t) = n2 m i t (word m t)
 step m l (N3 i t) = Ok (Going, move_tail m t, N1 i)
-step m l (N4 i t e) = cond (word m t == e)
-    (Ok (Going, with_word m t (join m.places (cycle m.places t) i), N5 t))
-    (Ok (Going, m, N1 i))
+step m l (N4 i t e) = if word m t == e then Ok (Going, with_word m t (join m.places (cycle m.places t) i), N5 t)
+    else Ok (Going, m, N1 i)
 step m l (N5 t) = Ok (Added, move_tail m t, Idle)
-step m l N6 = cond (m.head == l) (Err AtLimit) (Ok (Going, m, N7 m.head))
+step m l N6 = if m.head == l then Err AtLimit else Ok (Going, m, N7 m.head)
 step m l (N7 h) = n7 m h (word m h)
-step m l (N8 h e) = cond (m.head == h)
-    (Ok (Taken (Some (index m.places e)), with_head m (h + 1), Idle))
-    (Ok (Going, m, N6))
+step m l (N8 h e) = if m.head == h then Ok (Taken (Some (index m.places e)), with_head m (h + 1), Idle)
+    else Ok (Going, m, N6)
 
 -- rings
 
@@ -111,9 +108,6 @@ Outcome = tables.Outcome Memory Stage
 -- where station s's call stands
 abbrev pub stage : State → ℕ → Stage
 stage = stage_of Idle
-
-abbrev pub turns : State → ℕ → Outcome
-turns = turned Idle step
 
 -- begins
 
@@ -146,17 +140,6 @@ is_there m i j =
     (index m.places (slice_index m.words j) == i) &&
     nat_le m.head (join m.places (cycle m.places (slice_index m.words j)) j)
 
-abbrev pub is_outside : State → ℕ → Bool
-is_outside q i =
-    not (any_below q.memory.places (is_there q.memory i)) &&
-    not (any_below q.stations (λ s. is_adding i (stage q s)))
-
-abbrev pub adds : State → ℕ → ℕ → Outcome
-adds q s i = add_begun Idle is_idle q.memory.places (is_outside q i) (N1 i) q s i
-
-abbrev pub takes : State → ℕ → Outcome
-takes = take_begun Idle is_idle N6
-
 -- makes
 
 abbrev pub new_ring : ℕ → ℕ → ℕ → ℕ → List ℕ → State
@@ -169,10 +152,41 @@ new_ring n k l h ws = record {
 
 -- the words of a full ring: of cycle 0 and index j at slot j
 unfoldable pub full_words : ℕ → List ℕ
-full_words n = map (λ j. cond (nat_lt j n) (join n 0 j) 0) (range_with_len 0 64)
+full_words n = map (λ j. if nat_lt j n then join n 0 j else 0) (range_with_len 0 64)
+
+-- all that the table says
+
+abbrev pub steps : Steps Memory Stage
+steps = record {
+  idle = Idle;
+  is_idle = is_idle;
+  adding = N1;
+  taking = N6;
+  is_adding = is_adding;
+  places = λ m. m.places;
+  slots = λ m. m.places;
+  is_there = is_there;
+  step = step;
+  empty = λ n. record { places = n; head = n; tail = n; words = replicate 64 0 };
+  full = λ n. record { places = n; head = 0; tail = n; words = full_words n };
+}
+
+-- calls
 
 abbrev pub empty : ℕ → ℕ → ℕ → Result State Refusal
-empty n k l = made (make_checked n k l) (new_ring n k l n (replicate 64 0))
+empty = tables.empty steps
 
 abbrev pub full : ℕ → ℕ → ℕ → Result State Refusal
-full n k l = made (make_checked n k l) (new_ring n k l 0 (full_words n))
+full = tables.full steps
+
+abbrev pub is_outside : State → ℕ → Bool
+is_outside = tables.is_outside steps
+
+abbrev pub adds : State → ℕ → ℕ → Outcome
+adds = tables.adds steps
+
+abbrev pub takes : State → ℕ → Outcome
+takes = tables.takes steps
+
+abbrev pub turns : State → ℕ → Outcome
+turns = tables.turns steps

@@ -7,9 +7,11 @@ ghost use Rattle.ncq_table.specs.Table.{State, empty, full, adds, takes, turns};
 ghost use Rattle.ncq_table.specs.Stands.{Stands};
 ghost use Rattle.ncq_table.specs.Example.{MidAddStands};
 
+use std::fmt;
+
 // Where a station's call stands: the step that its next turn makes, with the station's own registers.
 // N1 to N5 add an index, N6 to N8 take one.
-#[derive(Clone, Copy)]
+#[derive(Clone, Copy, Debug, PartialEq, Eq)]
 pub enum Stage {
     // no call in progress
     Idle,
@@ -48,6 +50,23 @@ pub enum Stage {
         ticket: usize,
         word: usize,
     },
+}
+
+// The name of the step.
+impl fmt::Display for Stage {
+    fn fmt<W: fmt::Write>(&self, f: &mut fmt::Formatter<W>) -> fmt::Result {
+        f.pad(match self {
+            Stage::Idle => "idle",
+            Stage::N1 { .. } => "N1",
+            Stage::N2 { .. } => "N2",
+            Stage::N3 { .. } => "N3",
+            Stage::N4 { .. } => "N4",
+            Stage::N5 { .. } => "N5",
+            Stage::N6 => "N6",
+            Stage::N7 { .. } => "N7",
+            Stage::N8 { .. } => "N8",
+        })
+    }
 }
 
 // Whatever calls come, in whatever order, the table does what a ring may do.

@@ -1,6 +1,11 @@
--- A test of all numbers below a bound, and what one number more or one other answer changes.
-use Rattle.std.proofs.Common.{◌≡◌, ℕ, zero, suc, ◌+◌, ◌<◌, ◌≤◌, Bool, true, false, cond, Decides, sym, refl, ap, ◌∙◌, ap₂, ⊎_elim, add-one, arith}
-use Rattle.std.proofs.lemmas.Bool.{cases_eq, or_from}
+-- A test of all numbers below a bound, and what one other answer changes.
+use Rattle.std.proofs.Common.{◌≡◌, ℕ, zero, suc, ◌+◌, ◌<◌, ◌≤◌, Bool, true, false, cond, ◌||◌, Decides, List, take, length, get_or, sym, refl, ap, ◌∙◌, ap₂, ⊎_elim, add-one, zero-add, arith}
+use Rattle.std.proofs.Math.Bool.{or_comm}
+use Rattle.std.proofs.lemmas.Bool.{cases_eq}
+use Rattle.std.proofs.lemmas.List.{take_all}
+use Rattle.std.proofs.lemmas.List.Folds.{list_any_more}
+use Rattle.std.proofs.lemmas.List.FromFn.{length-range_with_len, get_or-range_with_len}
+use Rattle.std.specs.List.{list_any, range_with_len}
 use Rattle.std.proofs.lemmas.Bool.Decides.{Decides-below_or}
 use Rattle.ring.specs.Scans.{any_below, count_below}
 
@@ -13,9 +18,24 @@ any_found c test = (decides c test).0
 pub any_from : (c : ℕ) (test : ℕ → Bool) (j : ℕ) → j < c → test j ≡ true → any_below c test ≡ true
 any_from c test j l t = (decides c test).1 (j, l, t)
 
--- a scan that goes up
-pub none_more : (c : ℕ) (test : ℕ → Bool) → any_below c test ≡ false → test c ≡ false → any_below (c + 1) test ≡ false
-none_more c test all here = rw add-one (or_from (test c) (any_below c test) here all)
+any_same : (c : ℕ) (test other : ℕ → Bool) → ((j : ℕ) → j < c → test j ≡ other j) → any_below c test ≡ any_below c other
+any_same zero test other same = refl
+any_same (suc c) test other same = ap₂ (λ x y. x || y) (same c (omega arith)) (any_same c test other (λ j l. same j (omega arith)))
+
+-- a chain that asks each of the first k elements of xs, or each number below k
+
+pub list_any-take : {S : Type 0} (test : S → Bool) (xs : List S) (k : ℕ) (d : S) → k ≤ length xs → list_any test (take k xs) ≡ any_below k (λ s. test (get_or xs s d))
+list_any-take test xs zero d h = refl
+list_any-take test xs (suc k) d h =
+    ap (λ n. list_any test (take n xs)) (sym (add-one k)) ∙ (list_any_more test xs k d (omega arith) ∙
+    (or_comm (list_any test (take k xs)) _ ∙ ap (λ b. test (get_or xs k d) || b) (list_any-take test xs k d (omega arith))))
+
+pub list_any-range : (test : ℕ → Bool) (n : ℕ) → list_any test (range_with_len 0 n) ≡ any_below n test
+list_any-range test n =
+    let long = length-range_with_len 0 n in
+    ap (list_any test) (sym (take_all n (range_with_len 0 n) (omega (arith, long)))) ∙
+    (list_any-take test (range_with_len 0 n) n 0 (omega (arith, long)) ∙
+    any_same n _ test (λ j l. ap test (get_or-range_with_len 0 n j 0 l ∙ zero-add j)))
 
 -- counts
 

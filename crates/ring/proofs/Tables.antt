@@ -1,15 +1,12 @@
 -- A table's refusals leave the ring as it was.
-use Rattle.std.proofs.Common.{◌≡◌, ℕ, Bool, true, false, ltb, Ok, Err, refl}
-use Rattle.std.proofs.lemmas.Bool.{cond_both, both_ways}
+use Rattle.std.proofs.Common.{ℕ, Bool, ltb, Ok, Err, refl}
+use Rattle.std.proofs.lemmas.Bool.{cond_both}
 use Rattle.ring.specs.Meaning.{Kept}
 use Rattle.ring.specs.Tables.{State, Row, carried, stage_of, turned, add_begun, take_begun}
 
-accepted : false ≡ true → {A : Type 0} → A
-accepted e = absurd (both_ways false refl e)
-
 module _ {Memory Stage : Type 0} (q : State Memory Stage) (s : ℕ) where
   carried_kept : (r : Row Memory Stage) → Kept q (carried q s r)
-  carried_kept (Ok p) e = accepted e
+  carried_kept (Ok p) e = cc
   carried_kept (Err x) e = refl
 
   module _ (idle : Stage) where
@@ -20,12 +17,12 @@ module _ {Memory Stage : Type 0} (q : State Memory Stage) (s : ℕ) where
     add_begun_kept is_idle n outside first i = cond_both (ltb s q.stations) _ _ (Kept q)
         (λ c. cond_both (is_idle (stage_of idle q s)) _ _ (Kept q)
         (λ d. cond_both (ltb i n) _ _ (Kept q)
-        (λ l. cond_both outside _ _ (Kept q) (λ o e. accepted e) (λ o e. refl))
+        (λ l. cond_both outside _ _ (Kept q) (λ o e. cc) (λ o e. refl))
         (λ l e. refl))
         (λ d e. refl))
         (λ c e. refl)
 
     pub take_begun_kept : (is_idle : Stage → Bool) (first : Stage) → Kept q (take_begun idle is_idle first q s)
     take_begun_kept is_idle first = cond_both (ltb s q.stations) _ _ (Kept q)
-        (λ c. cond_both (is_idle (stage_of idle q s)) _ _ (Kept q) (λ d e. accepted e) (λ d e. refl))
+        (λ c. cond_both (is_idle (stage_of idle q s)) _ _ (Kept q) (λ d e. cc) (λ d e. refl))
         (λ c e. refl)

@@ -6,3 +6,4 @@ pub mod Runs
 pub mod Scans
 pub mod Cells
 pub mod Tables
+pub mod Bounds

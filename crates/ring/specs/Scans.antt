@@ -4,7 +4,7 @@
 -- count_below      how many numbers below c pass it
 --
 -- Assumes nothing.
-use Rattle.std.specs.Prelude.{ℕ, zero, suc, ◌+◌, Bool, false, cond, ◌||◌}
+use Rattle.std.specs.Prelude.{ℕ, zero, suc, ◌+◌, Bool, false, if◌then◌else◌, ◌||◌}
 
 abbrev pub any_below : ℕ → (ℕ → Bool) → Bool
 any_below zero test = false
@@ -12,4 +12,4 @@ any_below (suc c) test = test c || any_below c test
 
 abbrev pub count_below : ℕ → (ℕ → Bool) → ℕ
 count_below zero test = 0
-count_below (suc c) test = cond (test c) 1 0 + count_below c test
+count_below (suc c) test = (if test c then 1 else 0) + count_below c test

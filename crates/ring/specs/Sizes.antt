@@ -8,7 +8,7 @@
 -- Checked          what that answer says
 --
 -- Assumes nothing.
-use Rattle.std.specs.Prelude.{◌≡◌, ℕ, ◌*◌, ◌^◌, ◌≤◌, Bool, cond, ◌&&◌, ◌||◌, Ok, Err, Result, ◌==◌, nat_le}
+use Rattle.std.specs.Prelude.{◌≡◌, ℕ, ◌*◌, ◌^◌, ◌≤◌, Bool, if◌then◌else◌, ◌&&◌, ◌||◌, Ok, Err, Result, ◌==◌, nat_le}
 use Rattle.ring.specs.declared.Refusal.{Refusal}
 use Rattle.ring.specs.declared.Refusal.TheVariants.{Places, Stations, Limit}
 use Rattle.ring.specs.Numbers.{refusal_number}
@@ -32,11 +32,12 @@ abbrev pub is_size : ℕ → Bool
 is_size n = n == 1 || (n == 2 || (n == 4 || (n == 8 || (n == 16 || (n == 32 || n == 64)))))
 
 abbrev pub make_checked : ℕ → ℕ → ℕ → Result (Unit {0}) Refusal
-make_checked n k l = cond (is_size n)
-    (cond (nat_le 1 k && nat_le k n)
-    (cond (nat_le (4 * n) l && nat_le l 999999999) (Ok tt) (Err Limit))
-    (Err Stations))
-    (Err Places)
+make_checked n k l =
+    if is_size n then
+    (if nat_le 1 k && nat_le k n then
+    (if nat_le (4 * n) l && nat_le l 999999999 then Ok tt else Err Limit)
+    else Err Stations)
+    else Err Places
 
 abbrev pub Checked : ℕ → ℕ → ℕ → Result (Unit {0}) Refusal → Type 0
 Checked n k l (Ok u) = Sized n × Crewed n k × Limited n l

@@ -9,7 +9,6 @@
 
 ghost use Rattle.std.specs.Prelude.{◌≡◌, ℕ, Result};
 ghost use Rattle.ring.specs.Numbers.{answer_number, refusal_number, answer_of};
-ghost use Rattle.ring.specs.Sizes.{make_checked, Checked};
 ghost use Rattle.ring.specs.declared.Refusal.{Refusal};
 ghost use Rattle.ring.specs.declared.Progress.{Progress};
 ghost use Rattle.ring.specs.Model.{Model};
@@ -17,49 +16,55 @@ ghost use Rattle.ring.specs.Meaning.{viewed, Kept, MadeEmpty, MadeFull, AddBegun
 ghost use Rattle.ring.specs.Runs.{RunsStand};
 ghost use Rattle.ring.specs.Cells.{swapped};
 
-// What a caller is told of an accepted call.
-#[derive(Clone, Copy)]
+mod sizes;
+
+pub use sizes::Sizes;
+use std::error::Error;
+use std::fmt;
+
+// What a caller is told of an accepted call, by its number.
+#[derive(Clone, Copy, Debug, PartialEq, Eq)]
 pub enum Answer {
-    // 100: the call goes on
-    Going,
-    // 101: the put is done
-    PutDone,
-    // 102: the put found no free place
-    PutFull,
-    // 103: the take has ended with a record
-    TakeDone,
-    // 104: the take found nothing
-    TakeEmpty,
+    // the call goes on
+    Going = 100,
+    // the put is done
+    PutDone = 101,
+    // the put found no free place
+    PutFull = 102,
+    // the take has ended with a record
+    TakeDone = 103,
+    // the take found nothing
+    TakeEmpty = 104,
 }
 
-// Why a call was refused. A refused call changes nothing.
-#[derive(Clone, Copy)]
+// Why a call was refused, by its number. A refused call changes nothing.
+#[derive(Clone, Copy, Debug, PartialEq, Eq)]
 pub enum Refusal {
-    // 1: the number of places is not a power of two from 1 to 64
-    Places,
-    // 2: there is no station, or there are more than places
-    Stations,
-    // 3: the ticket limit is under four times the places, or over 999,999,999
-    Limit,
-    // 4: the rack, the caller's memory of records, has not exactly one for each place and each station
-    Rack,
-    // 5: there is no such station
-    NoStation,
-    // 6: a begin while the station has a call in progress
-    Busy,
-    // 7: a turn while the station has no call in progress
-    NoCall,
-    // 8: the turn would take a ticket, and the counter stands at the limit
-    AtLimit,
-    // 9: there is no such index
-    NoIndex,
-    // 10: the index is not outside the ring
-    NotOutside,
+    // the number of places is not a power of two from 1 to 64
+    Places = 1,
+    // there is no station, or there are more than places
+    Stations = 2,
+    // the ticket limit is under four times the places, or over 999,999,999
+    Limit = 3,
+    // the rack, the caller's memory of records, has not exactly one for each place and each station
+    Rack = 4,
+    // there is no such station
+    NoStation = 5,
+    // a begin while the station has a call in progress
+    Busy = 6,
+    // a turn while the station has no call in progress
+    NoCall = 7,
+    // the turn would take a ticket, and the counter stands at the limit
+    AtLimit = 8,
+    // there is no such index
+    NoIndex = 9,
+    // the index is not outside the ring
+    NotOutside = 10,
 }
 
 // What a ring tells of an accepted begin or turn. A take ends with an index or with none; none is
 // an absence, never index 0.
-#[derive(Clone, Copy)]
+#[derive(Clone, Copy, Debug, PartialEq, Eq)]
 pub enum Progress {
     Going,
     Added,
@@ -70,13 +75,7 @@ impl Answer {
     pub fn number(self) -> u32
         ensures { result ≡ answer_number self }
     {
-        match self {
-            Answer::Going => 100,
-            Answer::PutDone => 101,
-            Answer::PutFull => 102,
-            Answer::TakeDone => 103,
-            Answer::TakeEmpty => 104,
-        }
+        self as u32
     }
 }
 
@@ -84,56 +83,31 @@ impl Refusal {
     pub fn number(self) -> u32
         ensures { result ≡ refusal_number self }
     {
-        match self {
-            Refusal::Places => 1,
-            Refusal::Stations => 2,
-            Refusal::Limit => 3,
-            Refusal::Rack => 4,
-            Refusal::NoStation => 5,
-            Refusal::Busy => 6,
-            Refusal::NoCall => 7,
-            Refusal::AtLimit => 8,
-            Refusal::NoIndex => 9,
-            Refusal::NotOutside => 10,
-        }
+        self as u32
     }
 }
 
-impl Progress {
-    // The answer of a ring that is used by itself: an add counts as a put.
-    pub fn answer(self) -> Answer
-        ensures { result ≡ answer_of self }
-    {
-        match self {
+impl fmt::Display for Refusal {
+    fn fmt<W: fmt::Write>(&self, f: &mut fmt::Formatter<W>) -> fmt::Result {
+        let number = self.number();
+        write!(f, "the call is refused with {number}")
+    }
+}
+
+impl Error for Refusal {}
+
+// The answer of a ring that is used by itself: an add counts as a put.
+impl From<Progress> for Answer {
+    ghost from_gives = { λ progress answer. answer ≡ answer_of progress };
+
+    fn from(progress: Progress) -> Answer {
+        match progress {
             Progress::Going => Answer::Going,
             Progress::Added => Answer::PutDone,
             Progress::Taken(Some(_)) => Answer::TakeDone,
             Progress::Taken(None) => Answer::TakeEmpty,
         }
     }
-}
-
-// Whether a ring of these sizes may be made, with the first refusal that fits where it may not.
-pub fn check_make(places: usize, stations: usize, limit: usize) -> Result<(), Refusal>
-    ensures outcome { result ≡ make_checked places stations limit }
-    ensures meaning { Checked places stations limit result }
-{
-    ask_sizes(places, stations, limit)
-}
-
-fn ask_sizes(places: usize, stations: usize, limit: usize) -> Result<(), Refusal>
-    ensures { result ≡ make_checked places stations limit }
-{
-    if !matches!(places, 1 | 2 | 4 | 8 | 16 | 32 | 64) {
-        return Err(Refusal::Places);
-    }
-    if stations == 0 || stations > places {
-        return Err(Refusal::Stations);
-    }
-    if limit < 4 * places || limit > 999_999_999 {
-        return Err(Refusal::Limit);
-    }
-    Ok(())
 }
 
 // Sets the cell to `new` if it holds `old`, and tells whether it did.

@@ -6,28 +6,19 @@
 mod tests {
     use ncq::Ncq;
     use ring::{Progress, Refusal, Ring};
-    use scq::Scq;
+    use scq::{Counters, Scq};
+    use std::process::Abort;
     use std::test::Fail;
 
-    fn accepted<T: Drop>(told: Result<T, Refusal>) -> Result<T, Fail> {
-        match told {
-            Ok(answer) => Ok(answer),
-            Err(_) => Err(Fail::new("the call is refused")),
-        }
-    }
-
-    // The number of the refusal, or 0 where the call is accepted.
-    fn refusal_of<T: Drop>(told: Result<T, Refusal>) -> u32 {
-        match told {
-            Ok(_) => 0,
-            Err(refusal) => refusal.number(),
-        }
+    // The number of the refusal, if the call is refused.
+    fn refusal_of<T: Drop>(told: Result<T, Refusal>) -> Option<u32> {
+        told.err().map(Refusal::number)
     }
 
     // How many turns the station's call takes, and what it ends with.
     fn ended<R: Ring>(ring: &mut R, station: usize) -> Result<(u32, Progress), Fail> {
         for turn in 1..=9 {
-            match accepted(ring.turn(station))? {
+            match ring.turn(station)? {
                 Progress::Going => {}
                 end => return Ok((turn, end)),
             }
@@ -37,100 +28,112 @@ mod tests {
 
     // The station adds the index to the end of its call.
     fn add<R: Ring>(ring: &mut R, station: usize, index: usize) -> Result<(u32, Progress), Fail> {
-        accepted(ring.begin_add(station, index))?;
+        ring.begin_add(station, index)?;
         ended(ring, station)
     }
 
     fn take<R: Ring>(ring: &mut R, station: usize) -> Result<(u32, Progress), Fail> {
-        accepted(ring.begin_take(station))?;
+        ring.begin_take(station)?;
         ended(ring, station)
     }
 
     #[test]
     fn an_ncq_add_takes_four_turns_and_a_take_three(rt: HostRuntime) -> Result<(), Fail> {
-        let mut ring = accepted(Ncq::make_empty(1, 1, 4))?;
-        accepted(ring.begin_add(0, 0))?;
-        assert!(rt; matches!(ended(&mut ring, 0)?, (4, Progress::Added)));
-        accepted(ring.begin_take(0))?;
-        assert!(rt; matches!(ended(&mut ring, 0)?, (3, Progress::Taken(Some(0)))));
+        let mut ring = Ncq::make_empty(1, 1, 4)?;
+        ring.begin_add(0, 0)?;
+        assert_eq!(rt; ended(&mut ring, 0)?, (4, Progress::Added));
+        ring.begin_take(0)?;
+        assert_eq!(rt; ended(&mut ring, 0)?, (3, Progress::Taken(Some(0))));
         Ok(())
     }
 
     #[test]
     fn a_take_of_none_from_an_ncq_takes_two_turns(rt: HostRuntime) -> Result<(), Fail> {
-        let mut ring = accepted(Ncq::make_empty(2, 2, 100))?;
-        assert!(rt; matches!(take(&mut ring, 1)?, (2, Progress::Taken(None))));
+        let mut ring = Ncq::make_empty(2, 2, 100)?;
+        assert_eq!(rt; take(&mut ring, 1)?, (2, Progress::Taken(None)));
         Ok(())
+    }
+
+    fn refuses_the_first_wrong_size<R: Ring>(rt: &impl Abort) {
+        assert_eq!(rt; refusal_of(R::make_empty(1, 1, 3)), Some(3));
+        assert_eq!(rt; refusal_of(R::make_full(128, 0, 3)), Some(1));
     }
 
     #[test]
     fn the_first_wrong_size_is_refused(rt: HostRuntime) {
-        assert_eq!(rt; refusal_of(Ncq::make_empty(1, 1, 3)), 3);
-        assert_eq!(rt; refusal_of(Ncq::make_full(128, 0, 3)), 1);
+        refuses_the_first_wrong_size::<Ncq>(&rt);
+        refuses_the_first_wrong_size::<Scq>(&rt);
+    }
+
+    fn refuses_a_second_begin<R: Ring>(rt: &impl Abort) -> Result<(), Fail> {
+        let mut ring = R::make_empty(1, 1, 4)?;
+        ring.begin_take(0)?;
+        assert_eq!(rt; refusal_of(ring.begin_add(0, 7)), Some(6));
+        Ok(())
     }
 
     #[test]
     fn a_second_begin_is_refused(rt: HostRuntime) -> Result<(), Fail> {
-        let mut ring = accepted(Ncq::make_empty(1, 1, 4))?;
-        accepted(ring.begin_take(0))?;
-        assert_eq!(rt; refusal_of(ring.begin_add(0, 7)), 6);
+        refuses_a_second_begin::<Ncq>(&rt)?;
+        refuses_a_second_begin::<Scq>(&rt)
+    }
+
+    fn adds_no_index_of_a_full_ring<R: Ring>(rt: &impl Abort) -> Result<(), Fail> {
+        let mut ring = R::make_full(2, 1, 8)?;
+        assert_eq!(rt; refusal_of(ring.begin_add(0, 1)), Some(10));
         Ok(())
     }
 
     #[test]
     fn an_index_in_a_full_ncq_is_not_added_again(rt: HostRuntime) -> Result<(), Fail> {
-        let mut ring = accepted(Ncq::make_full(2, 1, 8))?;
-        assert_eq!(rt; refusal_of(ring.begin_add(0, 1)), 10);
-        Ok(())
+        adds_no_index_of_a_full_ring::<Ncq>(&rt)
     }
 
     #[test]
     fn an_scq_add_takes_five_turns_and_the_take_after_it_four(rt: HostRuntime) -> Result<(), Fail> {
-        let mut ring = accepted(Scq::make_empty(1, 1, 4))?;
-        assert!(rt; matches!(add(&mut ring, 0, 0)?, (5, Progress::Added)));
-        assert!(rt; matches!(take(&mut ring, 0)?, (4, Progress::Taken(Some(0)))));
+        let mut ring = Scq::make_empty(1, 1, 4)?;
+        assert_eq!(rt; add(&mut ring, 0, 0)?, (5, Progress::Added));
+        assert_eq!(rt; take(&mut ring, 0)?, (4, Progress::Taken(Some(0))));
         Ok(())
     }
 
     #[test]
     fn a_take_from_a_new_empty_scq_ends_on_its_first_turn(rt: HostRuntime) -> Result<(), Fail> {
-        let mut ring = accepted(Scq::make_empty(2, 2, 100))?;
-        assert!(rt; matches!(take(&mut ring, 1)?, (1, Progress::Taken(None))));
+        let mut ring = Scq::make_empty(2, 2, 100)?;
+        assert_eq!(rt; take(&mut ring, 1)?, (1, Progress::Taken(None)));
         Ok(())
     }
 
     // For two places the word of cycle 3, safe and with index 1 is 8 × 3 + 4 × 1 + 1.
     #[test]
     fn a_take_empties_the_word_and_leaves_its_cycle(rt: HostRuntime) -> Result<(), Fail> {
-        let mut ring = accepted(Scq::make_empty(2, 1, 100))?;
+        let mut ring = Scq::make_empty(2, 1, 100)?;
         for _ in 0..8 {
             add(&mut ring, 0, 0)?;
             take(&mut ring, 0)?;
         }
-        assert_eq!(rt; ring.counters().tail, 12);
+        assert_eq!(rt; Counters::of(&ring).tail, 12);
         add(&mut ring, 0, 1)?;
-        assert!(rt; matches!(ring.word(0), Some(29)));
+        assert_eq!(rt; ring.memory().word(0), Some(29));
         take(&mut ring, 0)?;
-        assert!(rt; matches!(ring.word(0), Some(31)));
+        assert_eq!(rt; ring.memory().word(0), Some(31));
         Ok(())
     }
 
     #[test]
     fn an_index_in_a_full_scq_is_not_added_again(rt: HostRuntime) -> Result<(), Fail> {
-        let mut ring = accepted(Scq::make_full(2, 1, 8))?;
-        assert_eq!(rt; refusal_of(ring.begin_add(0, 1)), 10);
-        Ok(())
+        adds_no_index_of_a_full_ring::<Scq>(&rt)
     }
 
     #[test]
     fn no_ticket_is_taken_at_the_limit(rt: HostRuntime) -> Result<(), Fail> {
-        let mut ring = accepted(Scq::make_empty(1, 1, 4))?;
+        let mut ring = Scq::make_empty(1, 1, 4)?;
         for _ in 0..2 {
             add(&mut ring, 0, 0)?;
             take(&mut ring, 0)?;
         }
-        accepted(ring.begin_add(0, 0))?;
-        assert_eq!(rt; refusal_of(ring.turn(0)), 8);
+        ring.begin_add(0, 0)?;
+        assert_eq!(rt; refusal_of(ring.turn(0)), Some(8));
         Ok(())
     }
 }

@@ -1,3 +1,3 @@
-pub mod Within
 pub mod View
 pub mod Steps
+pub mod Parts

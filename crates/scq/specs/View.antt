@@ -1,13 +1,8 @@
--- The state that a ring of the code shows: its fields, without the proofs of its bounds.
+-- The memory that the code's shows: its fields, without the proofs of its bounds.
 --
 -- Assumes nothing.
-use Rattle.scq_table.specs.Table.{State}
-use Rattle.scq.specs.declared.scq.Scq.{Scq}
+use Rattle.scq_table.specs.Table.{Memory}
+use Rattle.scq.specs.declared.memory.ScqMemory.{ScqMemory}
 
-abbrev pub view : Scq → State
-view q = record {
-  stations = q.stations;
-  limit = q.limit;
-  memory = record { places = q.places; head = q.head; tail = q.tail; threshold = q.threshold; words = q.words };
-  stages = q.stages;
-}
+abbrev pub view : ScqMemory → Memory
+view m = record { places = m.layout.places; head = m.head; tail = m.tail; threshold = m.threshold; words = m.words }

@@ -2,595 +2,321 @@
 
 #![tactic(auto)]
 
-ghost use Rattle.std.specs.Prelude.{◌≡◌, ◌*◌, ◌^◌, ◌<◌, ◌≤◌, pos, negsuc, ◌+ℤ◌, ◌≤ℤ◌, if◌then◌else◌, Some, None, int_le, nat_lt, slice_index, slice_index_or};
-ghost use Rattle.ring.specs.Sizes.{Sized, Crewed, Limited};
-ghost use Rattle.ring.specs.Meaning.{viewed};
-ghost use Rattle.ring.specs.Scans.{any_below};
-ghost use Rattle.scq_table.specs.Table.{State, new_ring, empty, full, is_adding, is_there, adds, takes, turns};
-ghost use Rattle.scq_table.specs.Table as table;
+ghost use Rattle.std.specs.Prelude.{◌≡◌, ◌*◌, ◌^◌, ◌<◌, ◌≤◌, pos, negsuc, ◌+ℤ◌, ◌≤ℤ◌, if◌then◌else◌, Some, None, nat_lt, slice_index};
+ghost use Rattle.ring.specs.Tables.{TellsAlways};
+ghost use Rattle.scq_table.specs.Table as table_specs;
+ghost use Rattle.scq_table.specs.Table.{steps, new_words};
+ghost use Rattle.scq_table.specs.declared.Stage.TheVariants.{A1, A2, A3, A4, A5, T1, T2, T3, T4, T5, T6, T7, T9, T11};
 ghost use Rattle.scq_table.specs.Stands.{Stands};
+ghost use Rattle.scq_table.specs.Within.{StepFits, Bounded};
+ghost use Rattle.scq.specs.Parts.{parts};
+ghost use Rattle.scq.specs.Steps.{ticket_taken};
 ghost use Rattle.scq.specs.View.{view};
-ghost use Rattle.scq.specs.Within.{LowWords};
-ghost use Rattle.scq.specs.Steps.{may_begin, part, is_free, word_of_new};
 ghost use Rattle.scq_table.proofs.Meaning.{table_means};
+ghost use Rattle.scq_table.proofs.Bounds.{bounded_prop, keeps_bounds};
 
-mod scq;
+mod layout;
+mod memory;
 
-use ring::{Progress, Refusal, Ring, check_make, compare_and_set};
-pub use scq::Scq;
+use layout::Layout;
+pub use layout::Parts;
+pub use memory::ScqMemory;
+use ring::{Progress, Refusal, Ring, Sizes, compare_and_set};
 use scq_table::Stage;
+use std::array;
 use std::cmp::Ordering;
+use table::{Memory, Row, Table, going};
 
-impl Ring for Scq {
-    ghost state = { State };
-
-    ghost view = { view };
-
-    ghost empty = { empty };
-
-    ghost full = { full };
-
-    ghost adds = { adds };
-
-    ghost takes = { takes };
-
-    ghost turns = { turns };
-
-    ghost stands = { Stands };
-
-    ghost means = { table_means };
-
-    fn make_empty(places: usize, stations: usize, limit: usize) -> Result<Scq, Refusal> {
-        Scq::open_empty(places, stations, limit)
-    }
-
-    fn make_full(places: usize, stations: usize, limit: usize) -> Result<Scq, Refusal> {
-        Scq::open_full(places, stations, limit)
-    }
-
-    fn begin_add(&mut self, station: usize, index: usize) -> Result<Progress, Refusal> {
-        self.start_add(station, index)
-    }
-
-    fn begin_take(&mut self, station: usize) -> Result<Progress, Refusal> {
-        self.start_take(station)
-    }
-
-    fn turn(&mut self, station: usize) -> Result<Progress, Refusal> {
-        self.step(station)
-    }
-}
+// A ring of indices.
+pub type Scq = Table<ScqMemory>;
 
 // The counters that the stations share.
-#[derive(Clone, Copy)]
+#[derive(Clone, Copy, Debug, PartialEq, Eq)]
 pub struct Counters {
     pub head: usize,
     pub tail: usize,
     pub threshold: i64,
 }
 
-// Which steps a station's next step is among.
-#[derive(Clone, Copy)]
-enum Part {
-    Nothing,
-    // A1 to A4, up to where the pair is written
-    Add,
-    // A5 and A6
-    Close,
-    // T1 to T5, up to where the ticket's pair is taken or the ticket is known to have none
-    Take,
-    // T6 to T9, where Tail is moved past a ticket with no pair
-    CatchUp,
-    // T10 and T11
-    Fail,
-}
-
-fn part_of(stage: Stage) -> Part
-    ensures { result ≡ part stage }
-{
-    match stage {
-        Stage::Idle => Part::Nothing,
-        Stage::A1 { .. } | Stage::A2 { .. } | Stage::A3 { .. } | Stage::A4 { .. } => Part::Add,
-        Stage::A5 { .. } | Stage::A6 { .. } => Part::Close,
-        Stage::T1 | Stage::T2 | Stage::T3 { .. } | Stage::T4 { .. } | Stage::T5 { .. } =>
-            Part::Take,
-        Stage::T6 { .. } | Stage::T7 { .. } | Stage::T8 { .. } | Stage::T9 { .. } => Part::CatchUp,
-        Stage::T10 { .. } | Stage::T11 { .. } => Part::Fail,
+impl Counters {
+    // The counters of a ring.
+    pub fn of(ring: &Scq) -> Counters
+        ensures exact { (result.head ≡ (⟦<Scq as Ring>⟧.view ring.now).memory.head) × (result.tail ≡ (⟦<Scq as Ring>⟧.view ring.now).memory.tail) × (result.threshold ≡ (⟦<Scq as Ring>⟧.view ring.now).memory.threshold) }
+        ensures within { (pos 0 ≤ℤ (result.threshold +ℤ pos (⟦<Scq as Ring>⟧.view ring.now).stations)) × (negsuc 63 ≤ℤ result.threshold) × (result.threshold ≤ℤ table_specs.top (⟦<Scq as Ring>⟧.view ring.now).memory.places) }
+    {
+        let memory = ring.memory();
+        Counters {
+            head: memory.head,
+            tail: memory.tail,
+            threshold: memory.threshold,
+        }
     }
 }
 
-// Which time round the slots a ticket belongs to.
-fn cycle(places: usize, ticket: usize) -> usize
-    requires { (1 ≤ places) × (places ≤ 64) }
-    ensures { result ≡ table.cycle places ticket }
-{
-    ticket / (2 * places)
-}
+impl Memory for ScqMemory {
+    type Stage = Stage;
 
-fn slot(places: usize, ticket: usize) -> usize
-    requires { (1 ≤ places) × (places ≤ 64) }
-    ensures { result ≡ table.slot places ticket }
-{
-    ticket % (2 * places)
-}
+    ghost shown = { table_specs.Memory };
 
-fn word_cycle(places: usize, word: usize) -> usize
-    requires { (1 ≤ places) × (places ≤ 64) }
-    ensures { result ≡ table.word_cycle places word }
-{
-    word / (4 * places)
-}
+    ghost view = { view };
 
-fn safe(places: usize, word: usize) -> usize
-    requires { (1 ≤ places) × (places ≤ 64) }
-    ensures { result ≡ table.safe places word }
-{
-    word / (2 * places) % 2
-}
+    ghost steps = { steps };
 
-fn index(places: usize, word: usize) -> usize
-    requires { (1 ≤ places) × (places ≤ 64) }
-    ensures { result ≡ table.index places word }
-{
-    word % (2 * places)
-}
+    ghost fits = { StepFits };
 
-// The index that says that no index is there.
-fn bottom(places: usize) -> usize
-    requires { (1 ≤ places) × (places ≤ 64) }
-    ensures { result ≡ table.bottom places }
-{
-    2 * places - 1
-}
+    ghost bounded = { Bounded };
 
-fn join(places: usize, cycle: usize, safe: usize, index: usize) -> usize
-    requires { (places ≤ 64) × (cycle < 2 ^ 40) × (safe ≤ 1) × (index < 2 ^ 40) }
-    ensures { result ≡ table.join places cycle safe index }
-{
-    4 * places * cycle + 2 * places * safe + index
-}
+    ghost bounded_prop = { bounded_prop };
 
-// The highest Threshold.
-fn top(places: usize) -> i64
-    requires { (1 ≤ places) × (places ≤ 64) }
-    ensures { result ≡ table.top places }
-{
-    (3 * places - 1) as i64
-}
+    ghost stands = { Stands };
 
-// Whether a take that lowers this Threshold tries no further ticket.
-fn is_used_up(threshold: i64) -> bool
-    ensures { result ≡ int_le threshold (pos 0) }
-{
-    threshold <= 0
-}
+    ghost bounds = { keeps_bounds };
 
-// Whether the word is empty and of a cycle before the ticket's.
-fn free_for(places: usize, word: usize, ticket: usize) -> bool
-    requires { (1 ≤ places) × (places ≤ 64) }
-    ensures { result ≡ is_free places word ticket }
-{
-    word_cycle(places, word) < cycle(places, ticket) && index(places, word) == bottom(places)
-}
+    ghost means = { table_means };
 
-// What a take writes over a word of an earlier cycle, so that no late add uses the ticket.
-fn spoilt(places: usize, ticket: usize, word: usize) -> usize
-    requires { ((1 ≤ places) × (places ≤ 64)) × ((ticket < 2 ^ 40) × (word < 2 ^ 40)) }
-    ensures { result ≡ table.spoilt places ticket word }
-{
-    let old = index(places, word);
-    if old == bottom(places) {
-        join(places, cycle(places, ticket), safe(places, word), old)
-    } else {
-        join(places, word_cycle(places, word), 0, old)
+    // The next take has the first ticket of cycle 1, and so has the next add.
+    fn empty(sizes: Sizes) -> ScqMemory {
+        let layout = Layout {
+            places: sizes.places,
+        };
+        ScqMemory {
+            layout,
+            head: layout.slots(),
+            tail: layout.slots(),
+            threshold: -1,
+            words: new_words(layout, 0),
+        }
     }
+
+    // Every index is in cycle 1.
+    fn full(sizes: Sizes) -> ScqMemory {
+        let places = sizes.places;
+        let layout = Layout { places };
+        ScqMemory {
+            layout,
+            head: layout.slots(),
+            tail: 3 * places,
+            threshold: layout.top(),
+            words: new_words(layout, places),
+        }
+    }
+
+    fn places(&self) -> usize {
+        self.layout.places
+    }
+
+    fn slots(&self) -> usize {
+        self.layout.slots()
+    }
+
+    fn is_at(&self, index: usize, slot: usize) -> bool {
+        self.layout.index(self.words[slot]) == index
+    }
+
+    fn idle() -> Stage {
+        Stage::Idle
+    }
+
+    fn is_idle(stage: Stage) -> bool {
+        matches!(stage, Stage::Idle)
+    }
+
+    fn adding(index: usize) -> Stage {
+        Stage::A1 { index }
+    }
+
+    fn taking() -> Stage {
+        Stage::T1
+    }
+
+    fn is_adding(stage: Stage, index: usize) -> bool {
+        match stage {
+            Stage::A1 { index: added }
+            | Stage::A2 { index: added, .. }
+            | Stage::A3 { index: added, .. }
+            | Stage::A4 { index: added, .. } => added == index,
+            _ => false,
+        }
+    }
+
+    // The step table: one memory operation, and where the station stands after it.
+    #[rattlefmt::skip]
+    fn row(&mut self, limit: usize, stage: Stage) -> Row<Stage> {
+        match stage {
+            Stage::Idle => Err(Refusal::NoCall),
+            Stage::A1 { index } => {
+                let ticket = take_ticket(&mut self.tail, limit)?;
+                going(Stage::A2 { index, ticket })
+            }
+            Stage::A2 { index, ticket } => self.load_to_add(index, ticket),
+            Stage::A3 { index, ticket, word } if self.head <= ticket => going(Stage::A4 { index, ticket, word }),
+            Stage::A3 { index, .. } => going(Stage::A1 { index }),
+            Stage::A4 { index, ticket, word } => self.write(index, ticket, word),
+            Stage::A5 { .. } if self.threshold == self.layout.top() => Ok((Progress::Added, Stage::Idle)),
+            Stage::A5 { ticket } => going(Stage::A6 { ticket }),
+            Stage::A6 { .. } => {
+                self.threshold = self.layout.top();
+                Ok((Progress::Added, Stage::Idle))
+            }
+            Stage::T1 if self.threshold < 0 => Ok((Progress::Taken(None), Stage::Idle)),
+            Stage::T1 => going(Stage::T2),
+            Stage::T2 => {
+                let ticket = take_ticket(&mut self.head, limit)?;
+                going(Stage::T3 { ticket })
+            }
+            Stage::T3 { ticket } => self.load_to_take(ticket),
+            Stage::T4 { ticket, word } => self.empty_word(ticket, word),
+            Stage::T5 { ticket, word } => self.spoil_word(ticket, word),
+            Stage::T6 { ticket } if self.tail <= ticket + 1 => going(Stage::T7 { ticket, tail: self.tail, head: ticket + 1 }),
+            Stage::T6 { ticket } => going(Stage::T11 { ticket }),
+            Stage::T7 { ticket, tail, head } => self.move_tail(ticket, tail, head),
+            Stage::T8 { ticket } => going(Stage::T9 { ticket, head: self.head }),
+            Stage::T9 { ticket, head } if self.tail >= head => going(Stage::T10 { ticket }),
+            Stage::T9 { ticket, head } => going(Stage::T7 { ticket, tail: self.tail, head }),
+            Stage::T10 { .. } => {
+                self.threshold -= 1;
+                Ok((Progress::Taken(None), Stage::Idle))
+            }
+            Stage::T11 { ticket } => self.lower_threshold(ticket),
+        }
+    }
+}
+
+// Fetch-and-add: the counter's old value is the ticket. It stays below the limit.
+fn take_ticket(counter: &mut usize, limit: usize) -> Result<usize, Refusal>
+    requires { counter.old ≤ 999999999 }
+    ensures { (result, counter.new) ≡ ticket_taken counter.old limit }
+{
+    if *counter == limit {
+        return Err(Refusal::AtLimit);
+    }
+    let ticket = *counter;
+    *counter += 1;
+    Ok(ticket)
 }
 
 // The words of a new ring, with the indices below `filled` in cycle 1.
-fn new_words(places: usize, filled: usize) -> [usize; 128]
-    requires { (1 ≤ places) × (places ≤ 64) }
-    ensures { result ≡ table.new_words places filled }
+fn new_words(layout: Layout, filled: usize) -> [usize; 128]
+    ensures { result ≡ new_words layout.places filled }
 {
-    let mut words = [0; 128];
-    for slot in 0..128 {
-        words[slot] = new_word(places, filled, slot);
-    }
-    words
+    array::from_fn(|slot| layout.new_word(filled, slot))
 }
 
-fn new_word(places: usize, filled: usize, slot: usize) -> usize
-    requires { ((1 ≤ places) × (places ≤ 64)) × (slot < 128) }
-    ensures { result ≡ word_of_new places filled slot }
-{
-    if slot < filled {
-        join(places, 1, 1, slot)
-    } else {
-        join(places, 0, 1, bottom(places))
-    }
-}
-
-// Whether a call that stands there is still to write the index.
-fn writes_later(stage: Stage, index: usize) -> bool
-    ensures { result ≡ is_adding index stage }
-{
-    match stage {
-        Stage::A1 { index: added }
-        | Stage::A2 { index: added, .. }
-        | Stage::A3 { index: added, .. }
-        | Stage::A4 { index: added, .. } => added == index,
-        _ => false,
-    }
-}
-
-impl Scq {
-    // Where the station's call stands, if there is such a station.
-    pub fn stage(&self, station: usize) -> Option<Stage>
-        ensures { result ≡ (if nat_lt station self.now.stations then Some (table.stage (view self.now) station) else None) }
-    {
-        if station >= self.stations {
-            return None;
-        }
-        Some(self.stages[station])
-    }
-
-    pub fn counters(&self) -> Counters
-        ensures exact { (result.head ≡ self.now.head) × (result.tail ≡ self.now.tail) × (result.threshold ≡ self.now.threshold) }
-        ensures within { (pos 0 ≤ℤ (result.threshold +ℤ pos self.now.stations)) × (negsuc 63 ≤ℤ result.threshold) × (result.threshold ≤ℤ table.top self.now.places) }
-    {
-        Counters {
-            head: self.head,
-            tail: self.tail,
-            threshold: self.threshold,
-        }
-    }
-
+impl ScqMemory {
     // The word at the slot, if there is such a slot.
     pub fn word(&self, slot: usize) -> Option<usize>
-        ensures { result ≡ (if nat_lt slot (2 * self.now.places) then Some (slice_index self.now.words slot) else None) }
+        ensures { result ≡ (if nat_lt slot (2 * self.now.layout.places) then Some (slice_index self.now.words slot) else None) }
     {
-        if slot >= 2 * self.places {
-            return None;
-        }
-        Some(self.words[slot])
+        self.words[..self.layout.slots()].get(slot).copied()
     }
 
-    // A new ring: every station is idle, and the next take has the first ticket of cycle 1.
-    fn new(
-        places: usize,
-        stations: usize,
-        limit: usize,
-        tail: usize,
-        threshold: i64,
-        words: [usize; 128],
-    ) -> Scq
-        requires sizes { Sized places × Crewed places stations × Limited places limit }
-        requires counts { (tail ≤ 3 * places) × (negsuc 0 ≤ℤ threshold) × (threshold ≤ℤ table.top places) }
-        requires written { LowWords words }
-        ensures { view result ≡ new_ring places stations limit tail threshold words }
+    // The word at the ticket's slot.
+    pub fn word_at(&self, ticket: usize) -> usize
+        ensures { result ≡ table_specs.word (view self.now) ticket }
     {
-        Scq {
-            places,
-            stations,
-            limit,
-            head: 2 * places,
-            tail,
-            threshold,
-            words,
-            stages: [Stage::Idle; 64],
-        }
+        self.words[self.layout.slot(ticket)]
     }
 
-    fn open_empty(places: usize, stations: usize, limit: usize) -> Result<Scq, Refusal>
-        ensures { viewed view result ≡ empty places stations limit }
+    // What a word of this ring is made up of.
+    pub fn parts(&self, word: usize) -> Parts
+        ensures { result ≡ parts self.now.layout.places word }
     {
-        check_make(places, stations, limit)?;
-        Ok(Scq::new(
-            places,
-            stations,
-            limit,
-            2 * places,
-            -1,
-            new_words(places, 0),
-        ))
+        self.layout.parts(word)
     }
 
-    fn open_full(places: usize, stations: usize, limit: usize) -> Result<Scq, Refusal>
-        ensures { viewed view result ≡ full places stations limit }
+    // A2
+    fn load_to_add(&self, index: usize, ticket: usize) -> Row<Stage>
+        ensures { TellsAlways steps (view self.now) (A2 index ticket) result (view self.now) }
     {
-        check_make(places, stations, limit)?;
-        Ok(Scq::new(
-            places,
-            stations,
-            limit,
-            3 * places,
-            top(places),
-            new_words(places, places),
-        ))
-    }
-
-    fn start_add(&mut self, station: usize, index: usize) -> Result<Progress, Refusal>
-        ensures { (result, view self.new) ≡ adds (view self.old) station index }
-    {
-        self.check_idle(station)?;
-        if index >= self.places {
-            return Err(Refusal::NoIndex);
-        }
-        if self.is_in_word(index) || self.is_being_added(index) {
-            return Err(Refusal::NotOutside);
-        }
-        self.stages[station] = Stage::A1 { index };
-        Ok(Progress::Going)
-    }
-
-    fn start_take(&mut self, station: usize) -> Result<Progress, Refusal>
-        ensures { (result, view self.new) ≡ takes (view self.old) station }
-    {
-        self.check_idle(station)?;
-        self.stages[station] = Stage::T1;
-        Ok(Progress::Going)
-    }
-
-    // A station has one call in progress at the most.
-    fn check_idle(&self, station: usize) -> Result<(), Refusal>
-        ensures { result ≡ may_begin (view self.now) station }
-    {
-        match self.stage(station) {
-            None => Err(Refusal::NoStation),
-            Some(Stage::Idle) => Ok(()),
-            Some(_) => Err(Refusal::Busy),
-        }
-    }
-
-    fn is_in_word(&self, index: usize) -> bool
-        ensures { result ≡ any_below (2 * self.now.places) (is_there (view self.now).memory index) }
-    {
-        for slot in 0..2 * self.places {
-            if self.is_at(index, slot) {
-                return true;
-            }
-        }
-        false
-    }
-
-    fn is_at(&self, index: usize, slot: usize) -> bool
-        requires { slot < 2 * self.now.places }
-        ensures { result ≡ is_there (view self.now).memory index slot }
-    {
-        crate::index(self.places, self.words[slot]) == index
-    }
-
-    fn is_being_added(&self, index: usize) -> bool
-        ensures { result ≡ any_below self.now.stations (λ s. is_adding index (table.stage (view self.now) s)) }
-    {
-        for station in 0..self.stations {
-            if writes_later(self.stages[station], index) {
-                return true;
-            }
-        }
-        false
-    }
-
-    // One row of the step table: the station's next memory operation.
-    fn step(&mut self, station: usize) -> Result<Progress, Refusal>
-        ensures { (result, view self.new) ≡ turns (view self.old) station }
-    {
-        let Some(stage) = self.stage(station) else {
-            return Err(Refusal::NoStation);
-        };
-        match part_of(stage) {
-            Part::Nothing => Err(Refusal::NoCall),
-            Part::Add => self.add_step(station),
-            Part::Close => self.close_step(station),
-            Part::Take => self.take_step(station),
-            Part::CatchUp => self.catch_up_step(station),
-            Part::Fail => self.fail_step(station),
-        }
-    }
-
-    fn add_step(&mut self, station: usize) -> Result<Progress, Refusal>
-        requires { (station < self.old.stations) × (part (slice_index_or self.old.stages station Stage.Idle) ≡ Part.Add) }
-        ensures { (result, view self.new) ≡ turns (view self.old) station }
-    {
-        let places = self.places;
-        let stage = &mut self.stages[station];
-        match *stage {
-            Stage::A1 { index } => {
-                if self.tail == self.limit {
-                    return Err(Refusal::AtLimit);
-                }
-                *stage = Stage::A2 {
-                    index,
-                    ticket: self.tail,
-                };
-                self.tail += 1;
-            }
-            Stage::A2 { index, ticket } => {
-                let word = self.words[slot(places, ticket)];
-                if !free_for(places, word, ticket) {
-                    *stage = Stage::A1 { index };
-                } else if safe(places, word) == 1 {
-                    *stage = Stage::A4 {
-                        index,
-                        ticket,
-                        word,
-                    };
-                } else {
-                    *stage = Stage::A3 {
-                        index,
-                        ticket,
-                        word,
-                    };
-                }
-            }
-            Stage::A3 {
+        let word = self.word_at(ticket);
+        if !self.layout.is_free(word, ticket) {
+            going(Stage::A1 { index })
+        } else if self.layout.is_safe(word) {
+            going(Stage::A4 {
                 index,
                 ticket,
                 word,
-            } => {
-                if self.head <= ticket {
-                    *stage = Stage::A4 {
-                        index,
-                        ticket,
-                        word,
-                    };
-                } else {
-                    *stage = Stage::A1 { index };
-                }
-            }
-            Stage::A4 {
+            })
+        } else {
+            going(Stage::A3 {
                 index,
                 ticket,
                 word,
-            } => {
-                let new = join(places, cycle(places, ticket), 1, index);
-                if compare_and_set(&mut self.words[slot(places, ticket)], word, new) {
-                    *stage = Stage::A5 { ticket };
-                } else {
-                    *stage = Stage::A2 { index, ticket };
-                }
-            }
-            _ => unreachable(),
-        }
-        Ok(Progress::Going)
-    }
-
-    fn close_step(&mut self, station: usize) -> Result<Progress, Refusal>
-        requires { (station < self.old.stations) × (part (slice_index_or self.old.stages station Stage.Idle) ≡ Part.Close) }
-        ensures { (result, view self.new) ≡ turns (view self.old) station }
-    {
-        let highest = top(self.places);
-        let stage = &mut self.stages[station];
-        match *stage {
-            Stage::A5 { ticket } => {
-                if self.threshold == highest {
-                    *stage = Stage::Idle;
-                    return Ok(Progress::Added);
-                }
-                *stage = Stage::A6 { ticket };
-                Ok(Progress::Going)
-            }
-            Stage::A6 { .. } => {
-                self.threshold = highest;
-                *stage = Stage::Idle;
-                Ok(Progress::Added)
-            }
-            _ => unreachable(),
+            })
         }
     }
 
-    fn take_step(&mut self, station: usize) -> Result<Progress, Refusal>
-        requires { (station < self.old.stations) × (part (slice_index_or self.old.stages station Stage.Idle) ≡ Part.Take) }
-        ensures { (result, view self.new) ≡ turns (view self.old) station }
+    // A4
+    fn write(&mut self, index: usize, ticket: usize, word: usize) -> Row<Stage>
+        requires { (index < self.old.layout.places) × (ticket < 999999999) }
+        ensures { TellsAlways steps (view self.old) (A4 index ticket word) result (view self.new) }
     {
-        let places = self.places;
-        let stage = &mut self.stages[station];
-        match *stage {
-            Stage::T1 => {
-                if self.threshold < 0 {
-                    *stage = Stage::Idle;
-                    return Ok(Progress::Taken(None));
-                }
-                *stage = Stage::T2;
-            }
-            Stage::T2 => {
-                if self.head == self.limit {
-                    return Err(Refusal::AtLimit);
-                }
-                *stage = Stage::T3 { ticket: self.head };
-                self.head += 1;
-            }
-            Stage::T3 { ticket } => {
-                let word = self.words[slot(places, ticket)];
-                match word_cycle(places, word).cmp(&cycle(places, ticket)) {
-                    Ordering::Equal => *stage = Stage::T4 { ticket, word },
-                    Ordering::Less => *stage = Stage::T5 { ticket, word },
-                    Ordering::Greater => *stage = Stage::T6 { ticket },
-                }
-            }
-            Stage::T4 { ticket, word } => {
-                self.words[slot(places, ticket)] |= bottom(places);
-                *stage = Stage::Idle;
-                return Ok(Progress::Taken(Some(index(places, word))));
-            }
-            Stage::T5 { ticket, word } => {
-                let new = spoilt(places, ticket, word);
-                if compare_and_set(&mut self.words[slot(places, ticket)], word, new) {
-                    *stage = Stage::T6 { ticket };
-                } else {
-                    *stage = Stage::T3 { ticket };
-                }
-            }
-            _ => unreachable(),
+        let layout = self.layout;
+        let new = layout.join(layout.cycle(ticket), true, index);
+        if compare_and_set(&mut self.words[layout.slot(ticket)], word, new) {
+            going(Stage::A5 { ticket })
+        } else {
+            going(Stage::A2 { index, ticket })
         }
-        Ok(Progress::Going)
     }
 
-    fn catch_up_step(&mut self, station: usize) -> Result<Progress, Refusal>
-        requires { (station < self.old.stations) × (part (slice_index_or self.old.stages station Stage.Idle) ≡ Part.CatchUp) }
-        ensures { (result, view self.new) ≡ turns (view self.old) station }
+    // T3
+    fn load_to_take(&self, ticket: usize) -> Row<Stage>
+        ensures { TellsAlways steps (view self.now) (T3 ticket) result (view self.now) }
     {
-        let stage = &mut self.stages[station];
-        match *stage {
-            Stage::T6 { ticket } => {
-                if self.tail <= ticket + 1 {
-                    *stage = Stage::T7 {
-                        ticket,
-                        tail: self.tail,
-                        head: ticket + 1,
-                    };
-                } else {
-                    *stage = Stage::T11 { ticket };
-                }
-            }
-            Stage::T7 { ticket, tail, head } => {
-                if compare_and_set(&mut self.tail, tail, head) {
-                    *stage = Stage::T10 { ticket };
-                } else {
-                    *stage = Stage::T8 { ticket };
-                }
-            }
-            Stage::T8 { ticket } => *stage = Stage::T9 {
-                ticket,
-                head: self.head,
-            },
-            Stage::T9 { ticket, head } => {
-                if self.tail >= head {
-                    *stage = Stage::T10 { ticket };
-                } else {
-                    *stage = Stage::T7 {
-                        ticket,
-                        tail: self.tail,
-                        head,
-                    };
-                }
-            }
-            _ => unreachable(),
+        let word = self.word_at(ticket);
+        match self.layout.word_cycle(word).cmp(&self.layout.cycle(ticket)) {
+            Ordering::Equal => going(Stage::T4 { ticket, word }),
+            Ordering::Less => going(Stage::T5 { ticket, word }),
+            Ordering::Greater => going(Stage::T6 { ticket }),
         }
-        Ok(Progress::Going)
     }
 
-    fn fail_step(&mut self, station: usize) -> Result<Progress, Refusal>
-        requires { (station < self.old.stations) × (part (slice_index_or self.old.stages station Stage.Idle) ≡ Part.Fail) }
-        ensures { (result, view self.new) ≡ turns (view self.old) station }
+    // T4
+    fn empty_word(&mut self, ticket: usize, word: usize) -> Row<Stage>
+        ensures { TellsAlways steps (view self.old) (T4 ticket word) result (view self.new) }
     {
-        let stage = &mut self.stages[station];
-        match *stage {
-            Stage::T10 { .. } => {
-                self.threshold -= 1;
-                *stage = Stage::Idle;
-                Ok(Progress::Taken(None))
-            }
-            Stage::T11 { .. } => {
-                let old = self.threshold;
-                self.threshold = old - 1;
-                if is_used_up(old) {
-                    *stage = Stage::Idle;
-                    return Ok(Progress::Taken(None));
-                }
-                *stage = Stage::T2;
-                Ok(Progress::Going)
-            }
-            _ => unreachable(),
+        let layout = self.layout;
+        self.words[layout.slot(ticket)] |= layout.bottom();
+        Ok((Progress::Taken(Some(layout.index(word))), Stage::Idle))
+    }
+
+    // T5
+    fn spoil_word(&mut self, ticket: usize, word: usize) -> Row<Stage>
+        requires { (ticket < 2 ^ 40) × (word < 2 ^ 40) }
+        ensures { TellsAlways steps (view self.old) (T5 ticket word) result (view self.new) }
+    {
+        let layout = self.layout;
+        let new = layout.spoilt(ticket, word);
+        if compare_and_set(&mut self.words[layout.slot(ticket)], word, new) {
+            going(Stage::T6 { ticket })
+        } else {
+            going(Stage::T3 { ticket })
+        }
+    }
+
+    // T7
+    fn move_tail(&mut self, ticket: usize, tail: usize, head: usize) -> Row<Stage>
+        ensures { TellsAlways steps (view self.old) (T7 ticket tail head) result (view self.new) }
+    {
+        if compare_and_set(&mut self.tail, tail, head) {
+            going(Stage::T10 { ticket })
+        } else {
+            going(Stage::T8 { ticket })
+        }
+    }
+
+    // T11
+    fn lower_threshold(&mut self, ticket: usize) -> Row<Stage>
+        requires { negsuc 63 ≤ℤ self.old.threshold }
+        ensures { TellsAlways steps (view self.old) (T11 ticket) result (view self.new) }
+    {
+        let old = self.threshold;
+        self.threshold -= 1;
+        if old <= 0 {
+            Ok((Progress::Taken(None), Stage::Idle))
+        } else {
+            going(Stage::T2)
         }
     }
 }

@@ -3,20 +3,20 @@ use Rattle.std.proofs.Common.{◌≡◌, ℕ, ◌+◌, ◌<◌, ◌≤◌, true,
 use lib.Signed.{≤ℤ_refl}
 use Rattle.std.proofs.lemmas.Int.{ints}
 use Rattle.std.proofs.lemmas.Bool.{cond_both, eqb-true, eqb-false, leb-true, leb-false, ltb-true, lt-ltb, eq-eqb, and_parts, and_from, both_ways, cases_lt}
+use Rattle.std.proofs.lemmas.Option.{same_Some}
 use Rattle.ring.specs.declared.Progress.TheVariants.{Going, Added}
 use Rattle.ring.specs.Model.{idle, adding, closing, Model, Holds}
 use Rattle.ring.specs.Meaning.{AddGoes, CloseGoes, Goes, AddMark, TakeMark, AtLimit, TurnRefused, Turned}
 use Rattle.ring.proofs.Entries.{put_same}
-use Rattle.ring.proofs.Options.{some_value, some_none, some_both}
 use Rattle.ring.proofs.Scans.{one_if, count_fewer}
+use Rattle.ring.proofs.Steps.{had, has_still}
 use Rattle.scq_table.specs.declared.Stage.{Stage}
 use Rattle.scq_table.specs.declared.Stage.TheVariants.{Idle, A1, A2, A3, A4, A5, A6}
 use Rattle.ring.specs.Tables.{moved, carried}
 use Rattle.scq_table.specs.Table.{cycle, word_cycle, safe, index, bottom, join, top, int_equal, Memory, word, with_tail, with_word, with_threshold, step, State, stage}
 use Rattle.scq_table.specs.Stands.{Blank, pair, writes, brings, swaps, closes, holds, live, behind, is_some, Fits, Does, Dead, Item, Charged, holders, Sound, Stands}
 use Rattle.scq_table.proofs.Words.{join-cycle, join-index}
-use Rattle.scq_table.proofs.Stations.{none, writes_low, live_holds, holds_does}
-use Rattle.scq_table.proofs.Moves.{had, has_still}
+use Rattle.scq_table.proofs.Stations.{writes_low, live_holds, holds_does}
 use Rattle.scq_table.proofs.Window.{blank_older, window}
 use Rattle.scq_table.proofs.Charges.{charged_less, item_back, item_on, with_ticket, charged_ticket}
 use Rattle.scq_table.proofs.Older.{charged_older}
@@ -27,9 +27,8 @@ use Rattle.scq_table.proofs.Rows.{Goal, charged_on, Shift, shift}
 
 int_equal-true : (a b : ℤ) → int_equal a b ≡ true → a ≡ b
 int_equal-true (pos a) (pos b) e = ap pos (eqb-true a b e)
-int_equal-true (pos a) (negsuc b) e = absurd (both_ways false refl e)
-int_equal-true (negsuc a) (pos b) e = absurd (both_ways false refl e)
 int_equal-true (negsuc a) (negsuc b) e = ap negsuc (eqb-true a b e)
+int_equal-true a b e = cc
 
 module _ (q : State) (m : Model) (h : Stands q m) (s : ℕ) (here : s < q.stations) where
   abbrev mem : Memory
@@ -61,14 +60,14 @@ module _ (q : State) (m : Model) (h : Stands q m) (s : ℕ) (here : s < q.statio
           tail_on = up;
           threshold_high = sound.shared.threshold_high;
           fits_mine = fits;
-          writes_from = λ j x. sym w ∙ x;
-          holds_from = λ t x. none t (sym no_hold ∙ x);
+          writes_from = λ j x. inl (sym w ∙ x);
+          holds_from = λ t x. absurd (cc);
           swaps_late = late;
-          live_on = λ t x. none t (sym no_live ∙ x);
+          live_on = λ t x. absurd (cc);
           live_new = λ t a b. absurd (omega arith);
-          behind_on = λ t a x. none t (sym no_behind ∙ x);
+          behind_on = λ t a x. absurd (cc);
           charged = charged;
-          closes_on = λ t j a b x. none t (sym no_close ∙ x);
+          closes_on = λ t j a b x. absurd (cc);
           credit_on = omega (arith, ints, ap (λ x. one_if (is_some x)) no_hold);
         })
         does sooner
@@ -91,11 +90,11 @@ module _ (q : State) (m : Model) (h : Stands q m) (s : ℕ) (here : s < q.statio
       t < mem.head → t < mem.tail → Sooner mem st₀ mem (A1 i) → (f : ℕ) → f ≤ t → m.doing s ≡ adding i f → Goal q m h s here Going mem (A1 i)
   gives_up i t st₀ at w b c e g low below sooner f l de =
       add_row st₀ (A1 i) at i f de mem.tail h.charge (omega arith) small (sym w) refl c e g
-      (λ x u a z y. none (u, word mem x) y)
+      (λ x u a z y. absurd (cc))
       (charged_less mem mem (stage q) next h.charge refl (omega arith) (omega arith)
-      (item_back mem q.stations (stage q) h.charge sound s next (A1 i) mine others mem (λ x y z. z) (λ x y z. none (x, y) z))
+      (item_back mem q.stations (stage q) h.charge sound s next (A1 i) mine others mem (λ x y z. z) (λ x y z. absurd (cc)))
       (λ x y a. item_on mem q.stations (stage q) h.charge sound s next (A1 i) mine others mem x y (λ z. z)
-      (λ z. absurd (omega (arith, ap (λ v. v.0) (some_value _ _ (sym (ap brings at ∙ b) ∙ z))))))
+      (λ z. absurd (omega (arith, ap (λ v. v.0) (same_Some _ _ (sym (ap brings at ∙ b) ∙ z))))))
       sound.charged)
       (f, omega arith, refl) sooner (AddMark.stays (sym h.adds_at))
     where
@@ -115,7 +114,7 @@ module _ (q : State) (m : Model) (h : Stands q m) (s : ℕ) (here : s < q.statio
   turn_a1 i at = cond_both (eqb mem.tail q.limit) _ _ (λ r. Turned Stands m s (carried q s r))
       (λ c. TurnRefused.at_limit refl (omega (arith, h.stations)) (subst (AtLimit m) (sym d.2) (h.adds_at ∙ (eqb-true _ _ c ∙ sym h.limit))))
       (λ c. add_row (A1 i) st at i d.0 d.2 (mem.tail + 1) (with_ticket mem q.stations (stage q) h.charge sound s next others i at (stage_mine q m h s here m' st))
-      (omega arith) (fits_at (A1 i) at, omega arith) refl refl refl refl refl (λ t u a b x. none (u, word mem t) x)
+      (omega arith) (fits_at (A1 i) at, omega arith) refl refl refl refl refl (λ t u a b x. absurd (cc))
       (charged_ticket mem q.stations (stage q) h.charge sound s next others i at (stage_mine q m h s here m' st))
       (d.0, d.1, refl) (a1_a2 mem i) (AddMark.rises (ap (λ x. x + 1) (sym h.adds_at))))
     where
@@ -138,15 +137,15 @@ module _ (q : State) (m : Model) (h : Stands q m) (s : ℕ) (here : s < q.statio
   turn_a2 i t at = cond_both (ltb (word_cycle mem.places w) (cycle mem.places t) && eqb (index mem.places w) (bottom mem.places)) _ _ (λ r. Turned Stands m s (carried q s r))
       (λ c. cond_both (eqb (safe mem.places w) 1) _ _ (λ r. Turned Stands m s (carried q s r))
       (λ e. add_quiet (A2 i t) (A4 i t w) at i d.0 d.2 (seen c) refl refl refl refl refl refl
-      (λ x u l z y. absurd (omega (arith, eqb-true (safe mem.places w) 1 e, ap (λ v. safe mem.places v.1) (some_value _ _ y))))
+      (λ x u l z y. absurd (omega (arith, eqb-true (safe mem.places w) 1 e, ap (λ v. safe mem.places v.1) (same_Some _ _ y))))
       (d.0, d.1, refl) (a2_a4 mem i t))
       (λ e. add_quiet (A2 i t) (A3 i t w) at i d.0 d.2 (seen c) refl refl refl refl refl refl
-      (λ x u l z y. none (u, word mem x) y)
+      (λ x u l z y. absurd (cc))
       (d.0, d.1, refl) (a2_a3 mem i t)))
       (λ c. ⊎_elim
       (λ low. gives_up i t (A2 i t) at refl refl refl refl refl low p.1 (a2_a1 mem i t (covered c)) d.0 d.1 d.2)
       (λ high. add_row (A2 i t) (A1 i) at i d.0 d.2 mem.tail _ (omega arith) p.0 refl refl refl refl refl
-      (λ x u l z y. none (u, word mem x) y)
+      (λ x u l z y. absurd (cc))
       (charged_older mem q.stations (stage q) h.charge sound s (stage (moved q s mem (A1 i))) (stage_other q m h s here mem (A1 i)) i t at (stage_mine q m h s here mem (A1 i)) high (covered c high))
       (d.0, omega (arith, d.1, p.1), refl) (a2_a1 mem i t (covered c)) (AddMark.stays (sym h.adds_at)))
       (cases_lt t mem.head))
@@ -171,7 +170,7 @@ module _ (q : State) (m : Model) (h : Stands q m) (s : ℕ) (here : s < q.statio
   turn_a3 i t e at = cond_both (leb mem.head t) _ _ (λ r. Turned Stands m s (carried q s r))
       (λ c. let high = leb-true mem.head t c in
       add_quiet (A3 i t e) (A4 i t e) at i d.0 d.2 p refl refl refl refl refl refl
-      (λ x u l z y. omega (arith, ap (λ v. v.0) (some_value _ _ y)))
+      (λ x u l z y. omega (arith, ap (λ v. v.0) (same_Some _ _ y)))
       (d.0, d.1, refl) (a3_a4 mem i t e high))
       (λ c. let low = leb-false mem.head t c in
       gives_up i t (A3 i t e) at refl refl refl refl refl low p.1 (a3_a1 mem i t e low) d.0 d.1 d.2)
@@ -239,17 +238,17 @@ module _ (q : State) (m : Model) (h : Stands q m) (s : ℕ) (here : s < q.statio
     from = filled_from mem sound.shared t w' i p.1 p.0 cycle' index' blank earlier
 
     swaps_from : (r x w : ℕ) → swaps (next r) ≡ Some (x, w) → swaps (stage q r) ≡ Some (x, w)
-    swaps_from r x w y = ⊎_elim (λ z. none (x, w) z.1) (λ z. z.1) (had (stage q) next s (A5 t) mine others swaps r (x, w) y)
+    swaps_from r x w y = ⊎_elim (λ z. absurd (cc)) (λ z. z.1) (had (stage q) next s (A5 t) mine others swaps r (x, w) y)
 
     -- the item is no longer the station's, but a pair
     back : (x j : ℕ) → Item wrote next x j → Item mem (stage q) x j
-    back x j (inl y) = ⊎_elim inl (λ z. inr (s, bringing ∙ some_both (sym z.0) z.1)) (from x j y)
-    back x j (inr y) = ⊎_elim (λ z. none (x, j) z.1) (λ z. inr (y.0, z.1)) (had (stage q) next s (A5 t) mine others brings y.0 (x, j) y.1)
+    back x j (inl y) = ⊎_elim inl (λ z. inr (s, cc bringing)) (from x j y)
+    back x j (inr y) = ⊎_elim (λ z. absurd (cc)) (λ z. inr (y.0, z.1)) (had (stage q) next s (A5 t) mine others brings y.0 (x, j) y.1)
 
     on : (x j : ℕ) → Item mem (stage q) x j → Item wrote next x j
-    on x j (inl y) = inl (rest x (λ z. some_none j (sym y ∙ (ap (pair mem) z ∙ before))) ∙ y)
+    on x j (inl y) = inl (rest x (λ z. cc before) ∙ y)
     on x j (inr y) = ⊎_elim
-        (λ z. let a = some_value _ _ (sym bringing ∙ z) in inl (subst (λ v. pair wrote v.0 ≡ Some v.1) a entered))
+        (λ z. let a = same_Some _ _ (sym bringing ∙ z) in inl (subst (λ v. pair wrote v.0 ≡ Some v.1) a entered))
         inr
         (has_still (stage q) next s (A5 t) mine others brings (x, j) y)
 
@@ -274,15 +273,15 @@ module _ (q : State) (m : Model) (h : Stands q m) (s : ℕ) (here : s < q.statio
         shared = filled_shared mem sound.shared t w' i p.1 p.0 cycle' index' blank earlier (λ x y. sound.not_both x s i y writing);
         fits_mine = p.1;
         fits_others = λ r o. filled_fits mem sound.shared t w' i p.1 p.0 cycle' index' blank earlier (stage q r) (sound.fits r);
-        writes_from = λ j x. none j x;
+        writes_from = λ j x. absurd (cc);
         pair_from = λ x j y. ⊎_elim inl (λ z. inr (ap Some (sym z.0), writing ∙ ap Some z.1, refl)) (from x j y);
-        holds_from = λ x y. none x y;
+        holds_from = λ x y. absurd (cc);
         dead_on = λ x l. filled_dead_on mem sound.shared t w' i p.1 p.0 cycle' index' blank earlier (stage q) next s own_swap swaps_from x;
-        live_on = λ x y. none x (sym (ap live at) ∙ y);
+        live_on = λ x y. absurd (cc);
         live_new = λ x a b. absurd (omega arith);
-        behind_on = λ x a y. none x (sym (ap behind at) ∙ y);
+        behind_on = λ x a y. absurd (cc);
         charged = charged_less mem wrote (stage q) next h.charge refl (omega arith) (omega arith) back (λ x j a. on x j) sound.charged;
-        closes_on = λ x j y a z. none x (sym (ap closes at) ∙ z);
+        closes_on = λ x j y a z. absurd (cc);
         credit_on = omega (arith, ints, ap (λ x. one_if (is_some (holds x))) at);
       };
       does_mine = refl;
@@ -303,7 +302,7 @@ module _ (q : State) (m : Model) (h : Stands q m) (s : ℕ) (here : s < q.statio
   turn_a4 i t e at = cond_both (eqb (word mem t) e) _ _ (λ r. Turned Stands m s (carried q s r))
       (λ c. written i t e at (eqb-true _ _ c))
       (λ c. add_quiet (A4 i t e) (A2 i t) at i own.0 own.2 (f.0, f.1) refl refl refl refl refl refl
-      (λ x u l z y. none (u, word mem x) y)
+      (λ x u l z y. absurd (cc))
       (own.0, own.1, refl) (a4_a2 mem i t e (λ z. eqb-false _ _ c (sym z))))
     where
       own : Does mem (A4 i t e) (m.doing s)
@@ -326,12 +325,12 @@ module _ (q : State) (m : Model) (h : Stands q m) (s : ℕ) (here : s < q.statio
       tail_on = omega arith;
       threshold_high = high;
       fits_mine = fits;
-      writes_from = λ j x. none j (sym w ∙ x);
-      holds_from = λ x y. none x (sym no_hold ∙ y);
-      swaps_late = λ x u l z y. none (u, word mem x) (sym no_swap ∙ y);
-      live_on = λ x y. none x (sym no_live ∙ y);
+      writes_from = λ j x. absurd (cc);
+      holds_from = λ x y. absurd (cc);
+      swaps_late = λ x u l z y. absurd (cc);
+      live_on = λ x y. absurd (cc);
       live_new = λ x a c. absurd (omega arith);
-      behind_on = λ x a y. none x (sym no_behind ∙ y);
+      behind_on = λ x a y. absurd (cc);
       charged = charged_on q m h s here st₀ st at mem.head mem.tail z' b (omega arith) (omega arith);
       closes_on = close;
       credit_on = omega (arith, ints, ap (λ x. one_if (is_some x)) no_hold);

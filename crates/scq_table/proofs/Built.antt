@@ -3,9 +3,11 @@ use Rattle.std.proofs.Common.{◌≡◌, ℕ, ◌+◌, ◌*◌, ◌<◌, ◌≤�
 use Rattle.std.proofs.lemmas.List.{length-set, get_or-set_same, get_or-set_other}
 use Rattle.ring.specs.declared.Progress.{Progress}
 use Rattle.ring.specs.Model.{Doing, adding, Model, EachOnce}
-use Rattle.ring.specs.Meaning.{Goes, AddMark, TakeMark, MayTurn, Turned, Begun}
+use Rattle.ring.specs.Meaning.{Goes, AddMark, TakeMark, Turned, Begun}
 use Rattle.ring.specs.Cells.{put}
 use Rattle.ring.proofs.Entries.{put_same, put_other}
+use Rattle.ring.proofs.Models as models
+use Rattle.ring.proofs.Steps.{by_station}
 use Rattle.scq_table.specs.declared.Stage.{Stage}
 use Rattle.scq_table.specs.declared.Stage.TheVariants.{Idle}
 use Rattle.ring.specs.Tables.{moved}
@@ -13,7 +15,7 @@ use Rattle.scq_table.specs.Table.{Memory, State, stage}
 use Rattle.scq_table.specs.Stands.{pair, writes, Does, Left, Sound, Stands}
 use Rattle.scq_table.proofs.Pairs.{pair_is}
 use Rattle.scq_table.proofs.Stations.{adding_writes, writes_low, does_on}
-use Rattle.scq_table.proofs.Moves.{by_station, Keeps, sound_after}
+use Rattle.scq_table.proofs.Moves.{Keeps, sound_after}
 use Rattle.scq_table.proofs.Lone.{Sooner, left_most}
 
 -- every index is outside, being added or in one pair
@@ -51,23 +53,10 @@ module _ (q : State) (m : Model) (h : Stands q m) (s : ℕ) (here : s < q.statio
   abbrev pub KeptWith : (ℕ → ℕ) → Type 0
   KeptWith charge' = Keeps q.memory q.stations (stage q) h.charge h.sound s here m' at' st charge' stage_mine stage_other
 
-  -- the model with d and the lone turns c
-  abbrev pub after : Doing → (ℕ → ℕ) → Model
-  after d c = record {
-    places = m.places;
-    stations = m.stations;
-    limit = m.limit;
-    under = pair m';
-    add_mark = m'.tail;
-    take_mark = m'.head;
-    doing = put m.doing s d;
-    lone = c;
-  }
-
   pub built : (d : Doing) (c : ℕ → ℕ) (charge' : ℕ → ℕ) → KeptWith charge' → Does m' st d →
       ((b : ℕ) × (c s + b ≤ 15 * m.places + 2) × Left m' st b) →
       ((r : ℕ) → (r ≡ s → ⊥) → Sound m' q.stations at' charge' → (b : ℕ) × (c r + b ≤ 15 * m.places + 2) × Left m' (stage q r) b) →
-      Stands (moved q s m' st) (after d c)
+      Stands (moved q s m' st) (models.after m s d (pair m') m'.tail m'.head c)
   built d c charge' keeps does soon_mine soon_others = record {
     charge = charge';
     sound = sound;
@@ -90,11 +79,8 @@ module _ (q : State) (m : Model) (h : Stands q m) (s : ℕ) (here : s < q.statio
 
 -- an accepted turn
 module _ (q : State) (m : Model) (h : Stands q m) (s : ℕ) (here : s < q.stations) (a : Progress) (m' : Memory) (st : Stage) (d : Doing) where
-  abbrev pub counts : ℕ → ℕ
-  counts = put (λ r. 0) s (m.lone s + 1)
-
   abbrev pub then : Model
-  then = after q m h s here m' st d counts
+  then = models.then m s d (pair m') m'.tail m'.head
 
   -- what a row of the table has to show
   pub record RowShows (charge' : ℕ → ℕ) : Type 0 where
@@ -106,62 +92,43 @@ module _ (q : State) (m : Model) (h : Stands q m) (s : ℕ) (here : s < q.statio
     pub takes : TakeMark m s a then
 
   pub row : (charge' : ℕ → ℕ) → RowShows charge' → Turned Stands m s (Ok a, moved q s m' st)
-  row charge' p = (then, (may_turn, stands))
+  row charge' p = (
+    then,
+    (
+      models.may_turn m s d (pair m') m'.tail m'.head a (omega (arith, h.stations)) p.goes p.adds p.takes (omega (arith, mine, fewer.1)) (each_once (moved q s m' st) then stands),
+      stands,
+    ),
+  )
     where
-      mine : counts s ≡ m.lone s + 1
+      mine : models.counts m s s ≡ m.lone s + 1
       mine = put_same (λ r. 0) s (m.lone s + 1)
 
-      fewer : (b : ℕ) × (counts s + b ≤ 15 * m.places + 2) × Left m' st b
+      fewer : (b : ℕ) × (models.counts m s s + b ≤ 15 * m.places + 2) × Left m' st b
       fewer =
           let now = h.ends_soon s in
           let next = p.sooner now.0 now.2 in
           (next.0, omega (arith, mine, now.1, next.1), next.2)
 
       stands : Stands (moved q s m' st) then
-      stands = built q m h s here m' st d counts charge' p.keeps p.does_mine fewer
+      stands = built q m h s here m' st d (models.counts m s) charge' p.keeps p.does_mine fewer
           (λ r e sound. (
             15 * m'.places + 2,
             omega (arith, put_other (λ r. 0) s (m.lone s + 1) r e, h.places, p.keeps.places_stay),
             left_most m' q.stations (at' q m h s here m' st) charge' sound (stage q r),
           ))
 
-      may_turn : MayTurn m s a then
-      may_turn = record {
-        station = omega (arith, h.stations);
-        goes = p.goes;
-        others = λ r e. put_other m.doing s d r e;
-        sizes = record { places = refl; stations = refl; limit = refl };
-        adds = p.adds;
-        takes = p.takes;
-        one_more = mine;
-        others_alone_no_more = λ r e. put_other (λ r. 0) s (m.lone s + 1) r e;
-        soon = λ g. omega (arith, fewer.1);
-        indices = each_once (moved q s m' st) then stands;
-      }
-
 -- an accepted begin
 module _ (q : State) (m : Model) (h : Stands q m) (s : ℕ) (here : s < q.stations) (st : Stage) (d : Doing) where
   abbrev pub begun : Model
-  begun = after q m h s here q.memory st d (put m.lone s 0)
+  begun = models.begun m s d (pair q.memory) q.memory.tail q.memory.head
 
   pub begins : stage q s ≡ Idle → KeptWith q m h s here q.memory st h.charge → Does q.memory st d →
       (m' : Model) × (Begun m s d m' × Stands (moved q s q.memory st) m')
   begins at keeps does = (
     begun,
     (
-      record {
-        station = omega (arith, h.stations);
-        was_idle = subst (λ x. Does q.memory x (m.doing s)) at (h.does s);
-        does_now = put_same m.doing s d;
-        others = λ r e. put_other m.doing s d r e;
-        sizes = record { places = refl; stations = refl; limit = refl };
-        pairs = λ t. sym (h.pairs t);
-        adds = sym h.adds_at;
-        takes = sym h.takes_at;
-        none_yet = put_same m.lone s 0;
-        counts_stay = λ r e. put_other m.lone s 0 r e;
-        indices = each_once (moved q s q.memory st) begun stands;
-      },
+      models.has_begun m s d (pair q.memory) q.memory.tail q.memory.head (omega (arith, h.stations)) (subst (λ x. Does q.memory x (m.doing s)) at (h.does s))
+          (λ t. sym (h.pairs t)) (sym h.adds_at) (sym h.takes_at) (each_once (moved q s q.memory st) begun stands),
       stands,
     ),
   )

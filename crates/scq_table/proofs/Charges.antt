@@ -1,15 +1,15 @@
 -- The numbers of the tickets from Head to Tail, as items come and go.
 use Rattle.std.proofs.Common.{◌≡◌, ℕ, ◌+◌, ◌<◌, ◌≤◌, ◌⊎◌, Some, None, sym, ap, ◌∙◌, subst, inl, inr, ⊎_elim, arith}
 use Rattle.std.proofs.lemmas.Bool.{cases_lt}
+use Rattle.std.proofs.lemmas.Option.{same_Some}
 use Rattle.ring.specs.Cells.{put}
 use Rattle.ring.proofs.Entries.{put_same, put_other}
-use Rattle.ring.proofs.Options.{some_value, some_none, some_both}
+use Rattle.ring.proofs.Steps.{had, has_still, has_now}
 use Rattle.scq_table.specs.declared.Stage.{Stage}
 use Rattle.scq_table.specs.declared.Stage.TheVariants.{A1, A2}
 use Rattle.scq_table.specs.Table.{slot, Memory, with_tail}
 use Rattle.scq_table.specs.Stands.{pair, writes, brings, Item, Charged, Sound}
 use Rattle.scq_table.proofs.Stations.{brings_writes, brings_low, writes_low}
-use Rattle.scq_table.proofs.Moves.{had, has_still, has_now}
 
 -- no ticket from Head to Tail
 pub charged_none : (m : Memory) (at : ℕ → Stage) (charge : ℕ → ℕ) → m.tail ≤ m.head → Charged m at charge
@@ -41,7 +41,7 @@ module _ (m : Memory) (k : ℕ) (at : ℕ → Stage) (charge : ℕ → ℕ) (h :
   unplaced i w b t (inl p) = h.not_both t s i p w
   unplaced i w b t (inr p) =
       let same : p.0 ≡ s = h.one_writer p.0 s i (brings_writes (at p.0) t i p.1) w in
-      some_none (t, i) (sym p.1 ∙ (ap (λ x. brings (at x)) same ∙ b))
+      cc
 
   -- the items are the same, where the station's is
   pub item_back : (m' : Memory) → ((t i : ℕ) → pair m' t ≡ Some i → pair m t ≡ Some i) → ((t i : ℕ) → brings st ≡ Some (t, i) → Item m at t i) →
@@ -76,7 +76,7 @@ module _ (m : Memory) (k : ℕ) (at : ℕ → Stage) (charge : ℕ → ℕ) (h :
   old_or_new : (t j : ℕ) → Item ticketed at' t j → (Item m at t j × (t < m.tail)) ⊎ ((t ≡ m.tail) × (i ≡ j))
   old_or_new t j (inl p) = inl (inl p, h.shared.pairs_low t j p)
   old_or_new t j (inr p) = ⊎_elim
-      (λ a. let e = some_value _ _ a.1 in inr (sym (ap (λ x. x.0) e), ap (λ x. x.1) e))
+      (λ a. let e = same_Some _ _ a.1 in inr (sym (ap (λ x. x.0) e), ap (λ x. x.1) e))
       (λ a. inl (inr (p.0, a.1), brings_low m (at p.0) t j (h.fits p.0) a.1))
       (had at at' s (A2 i m.tail) mine others brings p.0 (t, j) p.1)
 
@@ -86,7 +86,7 @@ module _ (m : Memory) (k : ℕ) (at : ℕ → Stage) (charge : ℕ → ℕ) (h :
 
   still : (t j : ℕ) → Item m at t j → Item ticketed at' t j
   still t j = item_on m k at charge h s at' (A2 i m.tail) mine others ticketed t j (λ p. p)
-      (λ p. absurd (some_none (t, j) (sym p ∙ ap brings was)))
+      (λ p. absurd (cc))
 
   pub charged_ticket : Charged ticketed at' with_ticket
   charged_ticket = record {
@@ -112,7 +112,7 @@ module _ (m : Memory) (k : ℕ) (at : ℕ → Stage) (charge : ℕ → ℕ) (h :
         (λ o. let e = before t o in
         subst (Item ticketed at' t) (sym e) (still t (charge t) (h.charged.from_item t a o (omega arith))))
         (λ g. let e : t ≡ m.tail = omega arith in
-        inr (has_now at at' s (A2 i m.tail) mine others brings (t, with_ticket t) (some_both (sym e) (sym (at_end t e)))))
+        inr (has_now at at' s (A2 i m.tail) mine others brings (t, with_ticket t) (cc (at_end t e))))
         (cases_lt t m.tail);
     from_older = λ t u j a b e x. ⊎_elim
         (λ l. ⊎_elim

@@ -1,12 +1,11 @@
 -- What a write of an empty word leaves of pairs, registers and dead tickets.
 use Rattle.std.proofs.Common.{◌≡◌, ℕ, ◌*◌, ◌<◌, ◌≤◌, ◌⊎◌, Some, None, sym, refl, ap, ◌∙◌, subst, inl, inr, ⊎_elim, arith}
 use Rattle.std.proofs.lemmas.Bool.{cases_eq, cases_lt}
-use Rattle.ring.proofs.Options.{some_none}
 use Rattle.ring.proofs.Tickets.{same_ticket}
 use Rattle.scq_table.specs.declared.Stage.{Stage}
 use Rattle.scq_table.specs.Table.{cycle, slot, word_cycle, safe, index, bottom, Memory, word, with_word}
 use Rattle.scq_table.specs.Stands.{Current, Blank, Seen, Unspoilt, pair, swaps, holds, Fits, Shared, Dead}
-use Rattle.scq_table.proofs.Pairs.{same_word, pair_elsewhere, pair_blank, one_current}
+use Rattle.scq_table.proofs.Pairs.{SameSlot, same_word, pair_elsewhere, pair_blank, one_current}
 use Rattle.scq_table.proofs.Stations.{swaps_seen, fits_on}
 use Rattle.scq_table.proofs.Writes.{word_here, word_there, pair_there_still, by_slot, seen_there, unspoilt_there, taken_there, dead_there, shared_on}
 
@@ -17,21 +16,18 @@ module _ (m : Memory) (h : Shared m) (u w' : ℕ) (below : u < m.head)
   abbrev m' : Memory
   m' = with_word m u w'
 
-  abbrev At' : ℕ → Type 0
-  At' t = slot m.places t ≡ slot m.places u
-
-  emptied_word : (t : ℕ) → At' t → Blank m' (word m' t)
+  emptied_word : (t : ℕ) → SameSlot m t u → Blank m' (word m' t)
   emptied_word t e = ap (index m.places) (word_here m h u w' t e) ∙ blank'
 
-  emptied_cycle : (t : ℕ) → At' t → word_cycle m.places (word m' t) ≡ cycle m.places u
+  emptied_cycle : (t : ℕ) → SameSlot m t u → word_cycle m.places (word m' t) ≡ cycle m.places u
   emptied_cycle t e = ap (word_cycle m.places) (word_here m h u w' t e) ∙ cycle'
 
-  emptied_current : (t : ℕ) → At' t → Current m' t → t ≡ u
+  emptied_current : (t : ℕ) → SameSlot m t u → Current m' t → t ≡ u
   emptied_current t e c = same_ticket (2 * m.places) t u e (sym c ∙ emptied_cycle t e)
 
   pub emptied_pair : (t i : ℕ) → pair m' t ≡ Some i → pair m t ≡ Some i
   emptied_pair t i p = ⊎_elim
-      (λ e. absurd (some_none i (sym p ∙ pair_blank m' t (emptied_word t e))))
+      (λ e. cc (pair_blank m' t (emptied_word t e)))
       (λ e. sym (pair_there_still m h u w' t e) ∙ p)
       (cases_eq (slot m.places t) (slot m.places u))
 
@@ -45,7 +41,7 @@ module _ (m : Memory) (h : Shared m) (u w' : ℕ) (below : u < m.head)
       (λ e. pair_there_still m h u w' t e)
       (cases_eq (slot m.places t) (slot m.places u))
     where
-      none : At' t → pair m t ≡ None
+      none : SameSlot m t u → pair m t ≡ None
       none e = ⊎_elim
           (λ b. pair_blank m t b)
           (λ b. pair_elsewhere m t (λ c. d (one_current m t u e c (sole (λ x. b (ap (index m.places) (same_word m t u e) ∙ x))))))
@@ -62,7 +58,7 @@ module _ (m : Memory) (h : Shared m) (u w' : ℕ) (below : u < m.head)
       (cases_eq (slot m.places t) (slot m.places u)))
       (λ t v i p q. h.one_pair t v i (emptied_pair t i p) (emptied_pair v i q))
 
-  seen_earlier : (t e : ℕ) → At' t → Seen m t e → word_cycle m.places e < cycle m.places u
+  seen_earlier : (t e : ℕ) → SameSlot m t u → Seen m t e → word_cycle m.places e < cycle m.places u
   seen_earlier t e q p = ⊎_elim
       (λ s. let same = s ∙ same_word m t u q in omega (arith, ap (word_cycle m.places) same, earlier (sym (ap (index m.places) same) ∙ p.0)))
       (λ l. omega (arith, ap (word_cycle m.places) (same_word m t u q), not_later))
@@ -95,19 +91,19 @@ module _ (m : Memory) (h : Shared m) (u w' : ℕ) (below : u < m.head)
 
   module _ (at at' : ℕ → Stage) (fits : (r : ℕ) → Fits m (at r)) (swaps_from : (r x e : ℕ) → swaps (at' r) ≡ Some (x, e) → swaps (at r) ≡ Some (x, e)) where
     -- no compare-and-set is for the new word
-    no_swap : (r x : ℕ) → At' x → swaps (at' r) ≡ Some (x, w') → ⊥
+    no_swap : (r x : ℕ) → SameSlot m x u → swaps (at' r) ≡ Some (x, w') → ⊥
     no_swap r x q p = omega (arith, cycle', seen_earlier x w' q (swaps_seen m (at r) x w' (fits r) (swaps_from r x w' p)))
 
     pub emptied_dead_on : (t : ℕ) → Dead m at t → Dead m' at' t
     emptied_dead_on t d = ⊎_elim (λ e. here e d) (λ e. dead_there m h u w' at at' swaps_from t e d) (cases_eq (slot m.places t) (slot m.places u))
       where
-        old : At' t → word_cycle m.places (word m t) ≡ word_cycle m.places (word m u)
+        old : SameSlot m t u → word_cycle m.places (word m t) ≡ word_cycle m.places (word m u)
         old e = ap (word_cycle m.places) (same_word m t u e)
 
-        late : At' t → cycle m.places t < cycle m.places u → Dead m' at' t
+        late : SameSlot m t u → cycle m.places t < cycle m.places u → Dead m' at' t
         late e l = Dead.overtaken (omega (arith, emptied_cycle t e))
 
-        here : At' t → Dead m at t → Dead m' at' t
+        here : SameSlot m t u → Dead m at t → Dead m' at' t
         here e (Dead.overtaken a) = late e (omega (arith, old e, not_later))
         here e (Dead.spoilt a b) = late e (omega (arith, old e, earlier (sym (ap (index m.places) (same_word m t u e)) ∙ b)))
         here e (Dead.unsafe a b c) = ⊎_elim

@@ -1,12 +1,12 @@
 -- What a write of a word with an index leaves of pairs, registers and dead tickets.
 use Rattle.std.proofs.Common.{◌≡◌, ℕ, ◌*◌, ◌<◌, ◌⊎◌, Some, None, sym, refl, ap, ◌∙◌, inl, inr, ⊎_elim, arith}
 use Rattle.std.proofs.lemmas.Bool.{cases_eq}
-use Rattle.ring.proofs.Options.{some_value}
+use Rattle.std.proofs.lemmas.Option.{same_Some}
 use Rattle.ring.proofs.Tickets.{same_ticket, later_cycle}
 use Rattle.scq_table.specs.declared.Stage.{Stage}
 use Rattle.scq_table.specs.Table.{cycle, slot, word_cycle, index, bottom, Memory, word, with_word}
 use Rattle.scq_table.specs.Stands.{Current, Blank, Seen, Unspoilt, pair, swaps, holds, Fits, Shared, Dead}
-use Rattle.scq_table.proofs.Pairs.{same_word, pair_there, pair_elsewhere, pair_blank}
+use Rattle.scq_table.proofs.Pairs.{SameSlot, same_word, pair_there, pair_elsewhere, pair_blank}
 use Rattle.scq_table.proofs.Stations.{fits_on}
 use Rattle.scq_table.proofs.Window.{some_place}
 use Rattle.scq_table.proofs.Writes.{word_here, word_there, pair_there_still, by_slot, seen_there, unspoilt_there, taken_there, dead_there, shared_on}
@@ -18,22 +18,19 @@ module _ (m : Memory) (h : Shared m) (u w' i : ℕ) (below : u < m.tail) (small 
   abbrev filled : Memory
   filled = with_word m u w'
 
-  abbrev AtU : ℕ → Type 0
-  AtU t = slot m.places t ≡ slot m.places u
-
-  filled_cycle : (t : ℕ) → AtU t → word_cycle m.places (word filled t) ≡ cycle m.places u
+  filled_cycle : (t : ℕ) → SameSlot m t u → word_cycle m.places (word filled t) ≡ cycle m.places u
   filled_cycle t e = ap (word_cycle m.places) (word_here m h u w' t e) ∙ cycle'
 
-  filled_index : (t : ℕ) → AtU t → index m.places (word filled t) ≡ i
+  filled_index : (t : ℕ) → SameSlot m t u → index m.places (word filled t) ≡ i
   filled_index t e = ap (index m.places) (word_here m h u w' t e) ∙ index'
 
-  not_blank : (t : ℕ) → AtU t → Blank filled (word filled t) → ⊥
+  not_blank : (t : ℕ) → SameSlot m t u → Blank filled (word filled t) → ⊥
   not_blank t e b = omega (arith, filled_index t e, some_place m h)
 
-  old_blank : (t : ℕ) → AtU t → Blank m (word m t)
+  old_blank : (t : ℕ) → SameSlot m t u → Blank m (word m t)
   old_blank t e = ap (index m.places) (same_word m t u e) ∙ blank
 
-  old_cycle : (t : ℕ) → AtU t → word_cycle m.places (word m t) < cycle m.places u
+  old_cycle : (t : ℕ) → SameSlot m t u → word_cycle m.places (word m t) < cycle m.places u
   old_cycle t e = omega (arith, ap (word_cycle m.places) (same_word m t u e), earlier)
 
   pub filled_before : pair m u ≡ None
@@ -50,7 +47,7 @@ module _ (m : Memory) (h : Shared m) (u w' i : ℕ) (below : u < m.tail) (small 
 
   pub filled_from : (t j : ℕ) → pair filled t ≡ Some j → (pair m t ≡ Some j) ⊎ ((t ≡ u) × (i ≡ j))
   filled_from t j p = ⊎_elim
-      (λ e. inr (e, some_value _ _ (sym filled_after ∙ (ap (pair filled) (sym e) ∙ p))))
+      (λ e. inr (e, same_Some _ _ (sym filled_after ∙ (ap (pair filled) (sym e) ∙ p))))
       (λ e. inl (sym (filled_rest t e) ∙ p))
       (cases_eq t u)
 
@@ -68,7 +65,7 @@ module _ (m : Memory) (h : Shared m) (u w' i : ℕ) (below : u < m.tail) (small 
       (λ a. ⊎_elim (λ b. absurd (fresh v (b ∙ ap Some (sym a.1)))) (λ b. a.0 ∙ sym b.0) (filled_from v j q))
       (filled_from t j p))
 
-  seen_filled : (t e : ℕ) → AtU t → Seen m t e → word_cycle m.places e < cycle m.places u
+  seen_filled : (t e : ℕ) → SameSlot m t u → Seen m t e → word_cycle m.places e < cycle m.places u
   seen_filled t e q p = ⊎_elim
       (λ s. omega (arith, ap (word_cycle m.places) s, old_cycle t q))
       (λ l. omega (arith, old_cycle t q))
@@ -101,10 +98,10 @@ module _ (m : Memory) (h : Shared m) (u w' i : ℕ) (below : u < m.tail) (small 
       ((r x e : ℕ) → swaps (at' r) ≡ Some (x, e) → swaps (at r) ≡ Some (x, e)) → (t : ℕ) → Dead m at t → Dead filled at' t
   filled_dead_on at at' s own from t d = ⊎_elim (λ e. late e (here e d)) (λ e. dead_there m h u w' at at' from t e d) (cases_eq (slot m.places t) (slot m.places u))
     where
-      late : AtU t → cycle m.places t < cycle m.places u → Dead filled at' t
+      late : SameSlot m t u → cycle m.places t < cycle m.places u → Dead filled at' t
       late e l = Dead.overtaken (omega (arith, filled_cycle t e))
 
-      here : AtU t → Dead m at t → cycle m.places t < cycle m.places u
+      here : SameSlot m t u → Dead m at t → cycle m.places t < cycle m.places u
       here e (Dead.overtaken a) = omega (arith, old_cycle t e)
       here e (Dead.spoilt a b) = omega (arith, old_cycle t e)
       here e (Dead.unsafe a b c) = later_cycle (2 * m.places) t u e

@@ -1,4 +1,6 @@
 pub mod Words
+pub mod LowWords
+pub mod Bounds
 mod Pairs
 mod Stations
 mod Moves

@@ -1,10 +1,10 @@
 -- Each turn brings a lone call nearer to its end; each lemma is named by the step that was made and the
 -- next one.
-use Rattle.std.proofs.Common.{◌≡◌, ℕ, zero, suc, ◌+◌, ◌-◌, ◌*◌, ◌<◌, ◌≤◌, max, Bool, true, false, eqb, ◌⊎◌, ℤ, pos, negsuc, ◌-ℤ◌, ◌≤ℤ◌, Some, sym, refl, ap, ◌∙◌, subst, inl, inr, ⊎_elim, mod-eq_of_lt, arith}
+use Rattle.std.proofs.Common.{◌≡◌, ℕ, suc, ◌+◌, ◌-◌, ◌*◌, ◌<◌, ◌≤◌, max, Bool, true, false, eqb, ◌⊎◌, ℤ, pos, negsuc, ◌-ℤ◌, ◌≤ℤ◌, Some, sym, refl, ap, ◌∙◌, subst, inl, inr, ⊎_elim, mod-eq_of_lt, arith}
 use lib.Signed.{le_z}
 use Rattle.std.proofs.lemmas.Int.{ints}
-use Rattle.std.proofs.lemmas.Bool.{cases_lt, cases_eq, true≢false, both_ways, eqb-true, eq-eqb}
-use Rattle.ring.proofs.Options.{some_value, some_none}
+use Rattle.std.proofs.lemmas.Bool.{cases_lt, cases_eq, both_ways, eqb-true, eq-eqb}
+use Rattle.std.proofs.lemmas.Option.{same_Some}
 use Rattle.ring.proofs.Pigeonhole.{pigeonhole}
 use Rattle.ring.specs.Scans.{any_below}
 use Rattle.ring.proofs.Scans.{any_found, any_from}
@@ -138,11 +138,10 @@ module _ (m : Memory) (h : ℕ) where
 
 -- one off a number above 0
 above_less : (z : ℤ) → le_z z (pos 0) ≡ false → above_zero (z -ℤ pos 1) + 1 ≡ above_zero z
-above_less (pos zero) e = absurd (true≢false e)
 above_less (pos (suc a)) e =
     let less : pos (suc a) -ℤ pos 1 ≡ pos a = omega (arith, ints) in
     omega (arith, ap above_zero less)
-above_less (negsuc a) e = absurd (true≢false e)
+above_less z e = cc
 
 above_low : (z : ℤ) (c : ℕ) → z ≤ℤ pos c → above_zero z ≤ c
 above_low (pos a) c l = omega (arith, ints)
@@ -192,8 +191,8 @@ module _ (m : Memory) (k : ℕ) (at : ℕ → Stage) (charge : ℕ → ℕ) (sou
       omega (
         arith,
         pigeonhole k (m.head - m.tail) f.0
-            (λ x l. ⊎_elim (λ a. a) (λ g. absurd (some_none (m.tail + x) (sym (f.1 x l) ∙ ap behind (sound.beyond (f.0 x) g)))) (cases_lt (f.0 x) k))
-            (λ x y l o e. let same = some_value _ _ (sym (f.1 x l) ∙ (ap (λ s. behind (at s)) e ∙ f.1 y o)) in omega arith),
+            (λ x l. ⊎_elim (λ a. a) (λ g. absurd (cc (f.1 x l, sound.beyond (f.0 x) g))) (cases_lt (f.0 x) k))
+            (λ x y l o e. let same = same_Some _ _ (sym (f.1 x l) ∙ (ap (λ s. behind (at s)) e ∙ f.1 y o)) in omega arith),
       )
 
   -- n indices do not fill 2n slots

@@ -1,25 +1,25 @@
 -- A new ring stands for a new model.
-use Rattle.std.proofs.Common.{◌≡◌, ℕ, zero, suc, ◌+◌, ◌-◌, ◌*◌, ◌<◌, ◌≤◌, cond, ltb, length, get_or, replicate, ℤ, pos, negsuc, ◌+ℤ◌, ◌≤ℤ◌, Some, None, Ok, Err, Option, Result, sym, refl, ap, ◌∙◌, subst, inl, inr, ⊎_elim, mod-lt, arith}
+use Rattle.std.proofs.Common.{◌≡◌, ℕ, zero, suc, ◌+◌, ◌-◌, ◌*◌, ◌<◌, ◌≤◌, cond, ltb, length, get_or, replicate, ℤ, pos, negsuc, ◌+ℤ◌, ◌≤ℤ◌, Some, sym, refl, ap, ◌∙◌, subst, inl, inr, ⊎_elim, mod-lt, arith}
 use native.Mathlib.Nat.{div-add-mod, div-eq_of_lt}
 use Rattle.std.proofs.lemmas.List.FromFn.{length-map-range_with_len, get_or-map-range_with_len}
 use Rattle.std.proofs.lemmas.List.{length-replicate}
 use Rattle.std.proofs.lemmas.Int.{ints}
 use Rattle.std.proofs.lemmas.Bool.{cases_lt, cond-true, cond-false, lt-ltb, le-ltb}
-use Rattle.ring.specs.declared.Refusal.{Refusal}
-use Rattle.ring.specs.Sizes.{Sized, make_checked, Checked}
+use Rattle.ring.specs.Sizes.{Sized, make_checked}
 use Rattle.ring.specs.Model.{idle, Model}
-use Rattle.ring.specs.Meaning.{New, NoPairs, AllPairs, Made, MadeEmpty, MadeFull}
+use Rattle.ring.specs.Meaning.{NoPairs, AllPairs, Made, MadeEmpty, MadeFull}
 use Rattle.ring.proofs.Entries.{get_or-same}
-use Rattle.ring.proofs.Options.{some_none}
 use Rattle.ring.proofs.Scans.{one_if}
-use Rattle.ring.proofs.Sizes.{checked, sized_low, sized_high}
+use Rattle.ring.proofs.Checks.{sized_low, sized_high}
+use Rattle.ring.proofs.Models as models
+use Rattle.ring.proofs.Calls.{made_means}
 use Rattle.ring.proofs.Tickets as tickets
 use Rattle.scq_table.specs.declared.Stage.TheVariants.{Idle}
 use Rattle.ring.specs.Tables.{made}
 use Rattle.scq_table.specs.Table.{cycle, slot, word_cycle, index, bottom, join, top, Memory, word, State, stage, new_ring, new_words, empty, full}
-use Rattle.scq_table.specs.Stands.{Blank, pair, writes, brings, holds, is_some, Fits, Does, Left, Shared, overtaken, spoilt, Charged, holders, Sound, Stands}
+use Rattle.scq_table.specs.Stands.{Blank, pair, holds, is_some, Fits, Does, Left, Shared, overtaken, spoilt, Charged, holders, Sound, Stands}
 use Rattle.scq_table.proofs.Words.{join-cycle, join-index, bottom_low}
-use Rattle.scq_table.proofs.Pairs.{pair_there, pair_is}
+use Rattle.scq_table.proofs.Pairs.{pair_there, pair_is, no_pair}
 use Rattle.scq_table.proofs.Built.{each_once}
 
 all_idle : (s : ℕ) → get_or (replicate 64 Idle) s Idle ≡ Idle
@@ -39,16 +39,7 @@ module _ (n k l c t : ℕ) (z : ℤ) (low : c ≤ n) (end : t ≡ 2 * n + c) (hi
   m = q.memory
 
   abbrev new : Model
-  new = record {
-    places = n;
-    stations = k;
-    limit = l;
-    under = pair m;
-    add_mark = t;
-    take_mark = 2 * n;
-    doing = λ s. idle;
-    lone = λ s. 0;
-  }
+  new = models.new n k l (pair m) t (2 * n)
 
   module _ (sized : Sized n) (few : k ≤ n) where
     some_place : 1 ≤ n
@@ -130,7 +121,7 @@ module _ (n k l c t : ℕ) (z : ℤ) (low : c ≤ n) (end : t ≡ 2 * n + c) (hi
     new_charged = record {
       low = λ u a b. omega arith;
       apart = λ u v a b d f e. omega arith;
-      to_item = λ u i a b. ⊎_elim (λ e. omega (arith, pair_new u i e)) (λ p. absurd (some_none _ (sym p.1 ∙ ap brings (all_idle p.0))));
+      to_item = λ u i a b. ⊎_elim (λ e. omega (arith, pair_new u i e)) (λ p. absurd (cc (all_idle p.0)));
       from_item = λ u a b d. inl (subst (λ v. pair m v ≡ Some (u - 2 * n)) (omega arith) (pair_at (u - 2 * n) (omega arith)));
       from_older = λ u v i a b e p. absurd (omega arith);
     }
@@ -141,9 +132,9 @@ module _ (n k l c t : ℕ) (z : ℤ) (low : c ≤ n) (end : t ≡ 2 * n + c) (hi
       crew = few;
       beyond = λ s g. all_idle s;
       fits = λ s. subst (Fits m) (sym (all_idle s)) tt;
-      one_writer = λ s r i w v. absurd (some_none i (sym w ∙ ap writes (all_idle s)));
-      not_both = λ u s i e w. some_none i (sym w ∙ ap writes (all_idle s));
-      one_holder = λ s r u w v. absurd (some_none u (sym w ∙ ap holds (all_idle s)));
+      one_writer = λ s r i w v. absurd (cc (all_idle s));
+      not_both = λ u s i e w. cc (all_idle s);
+      one_holder = λ s r u w v. absurd (cc (all_idle s));
       held_or_dead = λ u a. inr (⊎_elim
           (λ b. overtaken (omega (arith, div-eq_of_lt a, used_cycle u b)))
           (λ g. spoilt (blank_cycle u g ∙ sym (div-eq_of_lt a)) (is_blank u g))
@@ -168,34 +159,20 @@ module _ (n k l c t : ℕ) (z : ℤ) (low : c ≤ n) (end : t ≡ 2 * n + c) (hi
       ends_soon = λ s. (0, omega arith, subst (λ st. Left m st 0) (sym (all_idle s)) tt);
     }
 
-    is_new : New n k l new
-    is_new = record {
-      places = refl;
-      stations = refl;
-      limit = refl;
-      idle_all = λ s. refl;
-      add_low = omega arith;
-      take_low = omega arith;
-      indices = each_once q new new_stands;
-    }
-
   -- the indices in pairs are those below c
   new_means : (filled : Model → Type 0) →
       (((u i : ℕ) → pair m u ≡ Some i → i < c) → ((i : ℕ) → i < c → (u : ℕ) × (pair m u ≡ Some i)) → filled new) →
       Made Stands filled n k l (made (make_checked n k l) q)
-  new_means filled by = go (make_checked n k l) (checked n k l)
-    where
-      go : (r : Result (Unit {0}) Refusal) → Checked n k l r → Made Stands filled n k l (made r q)
-      go (Ok u) (sized, crewed, limited) =
-          let few = crewed.1 in (
-            (sized, crewed, limited),
-            (new, (is_new sized few, by (λ u i e. (pair_new sized few u i e).1) (λ i a. (2 * n + i, pair_at sized few i a)), new_stands sized few)),
-          )
-      go (Err e) refused = refused
-
-no_pair : (o : Option ℕ) → ((i : ℕ) → o ≡ Some i → ⊥) → o ≡ None
-no_pair None none = refl
-no_pair (Some i) none = absurd (none i refl)
+  new_means filled by = made_means Stands filled n k l q (λ sized crewed.
+      let few = crewed.1 in
+      let stands = new_stands sized few in (
+        new,
+        (
+          models.is_new n k l (pair m) t (2 * n) (omega arith) (omega arith) (each_once q new stands),
+          by (λ u i e. (pair_new sized few u i e).1) (λ i a. (2 * n + i, pair_at sized few i a)),
+          stands,
+        ),
+      ))
 
 pub means_empty : (n k l : ℕ) → MadeEmpty Stands n k l (empty n k l)
 means_empty n k l = new_means n k l 0 (2 * n) (negsuc 0) (omega arith) (omega arith) (omega (arith, ints)) (λ j a. absurd (omega arith)) NoPairs

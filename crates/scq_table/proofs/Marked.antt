@@ -1,10 +1,10 @@
 -- What a write leaves of pairs, registers and dead tickets that makes a word with an older pair unsafe.
-use Rattle.std.proofs.Common.{◌≡◌, ℕ, ◌<◌, cond, not, ◌&&◌, eqb, ◌⊎◌, Some, None, sym, refl, ap, ◌∙◌, subst, inr, ⊎_elim, arith}
+use Rattle.std.proofs.Common.{◌≡◌, ℕ, ◌<◌, ◌⊎◌, Some, sym, refl, ap, ◌∙◌, subst, inr, ⊎_elim, arith}
 use Rattle.std.proofs.lemmas.Bool.{cases_eq}
 use Rattle.scq_table.specs.declared.Stage.{Stage}
 use Rattle.scq_table.specs.Table.{cycle, slot, word_cycle, safe, index, bottom, Memory, word, with_word}
 use Rattle.scq_table.specs.Stands.{Blank, Seen, pair, swaps, Fits, Shared, Dead}
-use Rattle.scq_table.proofs.Pairs.{same_word}
+use Rattle.scq_table.proofs.Pairs.{SameSlot, same_word}
 use Rattle.scq_table.proofs.Stations.{swaps_seen, fits_on}
 use Rattle.scq_table.proofs.Writes.{word_here, by_slot, seen_there, dead_there, shared_on}
 
@@ -24,8 +24,7 @@ module _ (m : Memory) (h : Shared m) (u w' : ℕ)
       (λ t e. same_index ∙ ap (index m.places) (same_word m u t (sym e))) (λ t e. refl)
 
   pub marked_pair : (t : ℕ) → pair marked t ≡ pair m t
-  marked_pair t = ap (λ c. cond (eqb c (cycle m.places t) && not (eqb (index m.places (word marked t)) (bottom m.places))) (Some (index m.places (word marked t))) None) (marked_cycle t)
-      ∙ ap (λ i. cond (eqb (word_cycle m.places (word m t)) (cycle m.places t) && not (eqb i (bottom m.places))) (Some i) None) (marked_index t)
+  marked_pair t = cc (marked_cycle t, marked_index t)
 
   pub marked_shared : Shared marked
   marked_shared = shared_on m h u w'
@@ -35,7 +34,7 @@ module _ (m : Memory) (h : Shared m) (u w' : ℕ)
       (λ t v i p q. h.one_pair t v i (sym (marked_pair t) ∙ p) (sym (marked_pair v) ∙ q))
 
   -- an empty word is not the one that was there
-  seen_marked : (t e : ℕ) → slot m.places t ≡ slot m.places u → Seen m t e → word_cycle m.places e < word_cycle m.places (word m t)
+  seen_marked : (t e : ℕ) → SameSlot m t u → Seen m t e → word_cycle m.places e < word_cycle m.places (word m t)
   seen_marked t e q p = ⊎_elim (λ s. absurd (taken' (sym (ap (index m.places) (s ∙ same_word m t u q)) ∙ p.0))) (λ l. l) p.2
 
   pub marked_fits : (st : Stage) → Fits m st → Fits marked st
@@ -51,7 +50,7 @@ module _ (m : Memory) (h : Shared m) (u w' : ℕ)
 
   module _ (at at' : ℕ → Stage) (fits : (r : ℕ) → Fits m (at r)) (swaps_from : (r x e : ℕ) → swaps (at' r) ≡ Some (x, e) → swaps (at r) ≡ Some (x, e)) where
     -- no compare-and-set is for the new word
-    no_swap_marked : (t r x : ℕ) → slot m.places t ≡ slot m.places u → swaps (at' r) ≡ Some (x, word marked t) → ⊥
+    no_swap_marked : (t r x : ℕ) → SameSlot m t u → swaps (at' r) ≡ Some (x, word marked t) → ⊥
     no_swap_marked t r x e p =
         let seen = swaps_seen m (at r) x (word marked t) (fits r) (swaps_from r x (word marked t) p) in
         taken' (sym same_index ∙ (sym (ap (index m.places) (word_here m h u w' t e)) ∙ seen.0))
@@ -63,7 +62,7 @@ module _ (m : Memory) (h : Shared m) (u w' : ℕ)
     pub marked_dead_on : (t : ℕ) → Dead m at t → Dead marked at' t
     marked_dead_on t d = ⊎_elim (λ e. here e d) (λ e. dead_there m h u w' at at' swaps_from t e d) (cases_eq (slot m.places t) (slot m.places u))
       where
-        here : slot m.places t ≡ slot m.places u → Dead m at t → Dead marked at' t
+        here : SameSlot m t u → Dead m at t → Dead marked at' t
         here e (Dead.overtaken a) = Dead.overtaken (omega (arith, marked_cycle t))
         here e (Dead.spoilt a b) = Dead.spoilt (marked_cycle t ∙ a) (marked_index t ∙ b)
         here e (Dead.unsafe a b c) = Dead.unsafe (omega (arith, marked_cycle t)) (ap (safe m.places) (word_here m h u w' t e) ∙ unsafe')

@@ -1,51 +1,13 @@
 -- From what one station's turn keeps to what holds after it.
-use Rattle.std.proofs.Common.{◌≡◌, ℕ, ◌+◌, ◌<◌, ◌≤◌, ◌⊎◌, pos, ◌+ℤ◌, ◌≤ℤ◌, Some, None, Option, sym, ap, ◌∙◌, subst, inl, inr, ⊎_elim, arith}
+use Rattle.std.proofs.Common.{◌≡◌, ℕ, ◌+◌, ◌<◌, ◌≤◌, ◌⊎◌, pos, ◌+ℤ◌, ◌≤ℤ◌, Some, None, ap, ◌∙◌, inl, inr, ⊎_elim, arith}
 use Rattle.std.proofs.lemmas.Int.{ints}
-use Rattle.std.proofs.lemmas.Bool.{cases_eq, cases_lt}
-use Rattle.ring.proofs.Options.{some_none}
+use Rattle.std.proofs.lemmas.Bool.{cases_lt}
 use Rattle.ring.proofs.Scans.{one_if, count_moved}
+use Rattle.ring.proofs.Steps.{by_station, had, has_still, has_now, one_still}
 use Rattle.scq_table.specs.declared.Stage.{Stage}
 use Rattle.scq_table.specs.Table.{Memory}
 use Rattle.scq_table.specs.Stands.{pair, writes, closes, holds, live, behind, is_some, Fits, Shared, Dead, Charged, holders, Sound}
 use Rattle.scq_table.proofs.Stations.{live_behind, holds_low}
-
--- station s has come to step st, and the others have stayed
-module _ (at at' : ℕ → Stage) (s : ℕ) (st : Stage) (mine : at' s ≡ st) (others : (r : ℕ) → (r ≡ s → ⊥) → at' r ≡ at r) where
-  pub by_station : (P : ℕ → Stage → Type 0) → P s st → ((r : ℕ) → (r ≡ s → ⊥) → P r (at r)) → (r : ℕ) → P r (at' r)
-  by_station P here there r = ⊎_elim
-      (λ e. subst (λ x. P x (at' x)) (sym e) (subst (P s) (sym mine) here))
-      (λ e. subst (P r) (sym (others r e)) (there r e))
-      (cases_eq r s)
-
-  module _ {X : Type 0} (f : Stage → Option X) where
-    -- who has a number now: the station itself, or another that had it
-    pub had : (r : ℕ) (x : X) → f (at' r) ≡ Some x → ((r ≡ s) × (f st ≡ Some x)) ⊎ ((r ≡ s → ⊥) × (f (at r) ≡ Some x))
-    had r x p = ⊎_elim
-        (λ e. inl (e, sym (ap f (ap at' e ∙ mine)) ∙ p))
-        (λ e. inr (e, sym (ap f (others r e)) ∙ p))
-        (cases_eq r s)
-
-    -- who had one has it still, but perhaps the station itself
-    pub has_still : (x : X) → ((r : ℕ) × (f (at r) ≡ Some x)) → (f (at s) ≡ Some x) ⊎ ((r : ℕ) × (f (at' r) ≡ Some x))
-    has_still x p = ⊎_elim
-        (λ e. inl (sym (ap (λ r. f (at r)) e) ∙ p.1))
-        (λ e. inr (p.0, ap f (others p.0 e) ∙ p.1))
-        (cases_eq p.0 s)
-
-    pub has_now : (x : X) → f st ≡ Some x → (r : ℕ) × (f (at' r) ≡ Some x)
-    has_now x p = (s, ap f mine ∙ p)
-
-    -- where the station has no number that another had
-    pub one_still : ((r t : ℕ) (x : X) → f (at r) ≡ Some x → f (at t) ≡ Some x → r ≡ t) →
-        ((x : X) → f st ≡ Some x → (f (at s) ≡ Some x) ⊎ ((r : ℕ) → f (at r) ≡ Some x → ⊥)) →
-        (r t : ℕ) (x : X) → f (at' r) ≡ Some x → f (at' t) ≡ Some x → r ≡ t
-    one_still one from r t x p q = ⊎_elim
-        (λ a. ⊎_elim (λ b. a.0 ∙ sym b.0) (λ b. absurd (clash t a.1 b.0 b.1)) (had t x q))
-        (λ a. ⊎_elim (λ b. absurd (clash r b.1 a.0 a.1)) (λ b. one r t x a.1 b.1) (had t x q))
-        (had r x p)
-      where
-        clash : (t : ℕ) → f st ≡ Some x → (t ≡ s → ⊥) → f (at t) ≡ Some x → ⊥
-        clash t a b c = ⊎_elim (λ d. b (one t s x c d)) (λ d. d t c) (from x a)
 
 module _ (m : Memory) (k : ℕ) (at : ℕ → Stage) (charge : ℕ → ℕ) (sound : Sound m k at charge)
     (s : ℕ) (here : s < k) (m' : Memory) (at' : ℕ → Stage) (st : Stage) (charge' : ℕ → ℕ)
@@ -85,7 +47,7 @@ module _ (m : Memory) (k : ℕ) (at : ℕ → Stage) (charge : ℕ → ℕ) (sou
         (λ c. sound.not_both t r i b c.1)
         (had at at' s st mine others writes r i w))
         (λ b. ⊎_elim
-        (λ c. some_none i (sym c.1 ∙ b.2))
+        (λ c. cc)
         (λ c. c.0 (sound.one_writer r s i c.1 b.1))
         (had at at' s st mine others writes r i w))
         (p.pair_from t i a)

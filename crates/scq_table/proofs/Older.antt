@@ -1,17 +1,17 @@
 -- The numbers of the tickets from Head to Tail, where an add gives up its ticket because of an older pair.
 use Rattle.std.proofs.Common.{◌≡◌, ℕ, ◌+◌, ◌*◌, ◌<◌, ◌≤◌, Some, sym, ap, ◌∙◌, subst, inl, inr, ⊎_elim, arith}
 use Rattle.std.proofs.lemmas.Bool.{cases_eq, cases_lt}
+use Rattle.std.proofs.lemmas.Option.{same_Some}
 use Rattle.ring.specs.Cells.{put}
 use Rattle.ring.proofs.Entries.{put_same, put_other}
-use Rattle.ring.proofs.Options.{some_value, some_none}
 use Rattle.ring.proofs.Tickets.{slots_differ}
+use Rattle.ring.proofs.Steps.{had}
 use Rattle.scq_table.specs.declared.Stage.{Stage}
 use Rattle.scq_table.specs.declared.Stage.TheVariants.{A1, A2}
 use Rattle.scq_table.specs.Table.{slot, index, Memory, word}
 use Rattle.scq_table.specs.Stands.{Blank, pair, writes, brings, Item, Charged, Sound}
 use Rattle.scq_table.proofs.Pairs.{home}
 use Rattle.scq_table.proofs.Stations.{brings_writes, brings_low}
-use Rattle.scq_table.proofs.Moves.{had}
 use Rattle.scq_table.proofs.Window.{some_place, home_pair, window}
 use Rattle.scq_table.proofs.Charges.{item_back, item_on}
 
@@ -66,11 +66,11 @@ module _ (m : Memory) (k : ℕ) (at : ℕ → Stage) (charge : ℕ → ℕ) (h :
   else x e = put_other charge t (n + j) x e
 
   back : (x y : ℕ) → Item m at' x y → Item m at x y
-  back = item_back m k at charge h s at' (A1 i) mine others m (λ x y p. p) (λ x y p. absurd (some_none (x, y) (sym p)))
+  back = item_back m k at charge h s at' (A1 i) mine others m (λ x y p. p) (λ x y p. absurd (cc))
 
   still : (x y : ℕ) → (x ≡ t → ⊥) → Item m at x y → Item m at' x y
   still x y d = item_on m k at charge h s at' (A1 i) mine others m x y (λ p. p)
-      (λ p. absurd (d (sym (ap (λ z. z.0) (some_value _ _ (sym (ap brings was) ∙ p))))))
+      (λ p. absurd (d (sym (ap (λ z. z.0) (same_Some _ _ (sym (ap brings was) ∙ p))))))
 
   -- no other item has the ticket
   alone : (x y : ℕ) → x ≡ t → Item m at' x y → ⊥
@@ -81,7 +81,7 @@ module _ (m : Memory) (k : ℕ) (at : ℕ → Stage) (charge : ℕ → ℕ) (h :
 
       go : Item m at' t i → ⊥
       go (inl q) = h.not_both t s i q mine_writes
-      go (inr q) = ⊎_elim (λ a. some_none (t, i) (sym a.1))
+      go (inr q) = ⊎_elim (λ a. cc)
           (λ a. a.0 (h.one_writer q.0 s i (brings_writes (at q.0) t i a.1) mine_writes))
           (had at at' s (A1 i) mine others brings q.0 (t, i) q.1)
 

@@ -3,15 +3,18 @@ use Rattle.std.proofs.Common.{◌≡◌, ℕ, ◌+◌, ◌<◌, ◌≤◌, Bool,
 use lib.Bits.{bit_or}
 use lib.Signed.{lt_z, le_z}
 use Rattle.std.proofs.lemmas.Int.{ints}
-use Rattle.std.proofs.lemmas.Bool.{cond_both, eqb-true, eqb-false, leb-true, leb-false, ltb-true, ltb-false, cases_eq}
+use Rattle.std.proofs.lemmas.Bool.Decides.{nat_tests}
+use Rattle.std.proofs.lemmas.Bool.{cond_both, eqb-true, eqb-false, leb-true, leb-false, ltb-true, cases_eq}
+use Rattle.std.proofs.lemmas.Option.{same_Some}
 use Rattle.ring.specs.declared.Progress.{Progress}
 use Rattle.ring.specs.declared.Progress.TheVariants.{Going, Taken}
 use Rattle.ring.specs.Model.{Doing, idle, seeking, Model}
 use Rattle.ring.specs.Meaning.{NothingUnder, Leaves, Ticket, AllHeld, SeekGoes, Goes, AddMark, TakeMark, AtLimit, TurnRefused, Turned}
 use Rattle.ring.proofs.Entries.{put_same, put_other}
 use Rattle.ring.proofs.Leaving.{left_outside}
-use Rattle.ring.proofs.Options.{some_value}
+use Rattle.ring.proofs.Calls.{turned_means}
 use Rattle.ring.proofs.Scans.{one_if, count_some}
+use Rattle.ring.proofs.Steps.{had}
 use Rattle.scq_table.specs.declared.Stage.{Stage}
 use Rattle.scq_table.specs.declared.Stage.TheVariants.{Idle, A1, A2, A3, A4, A5, A6, T1, T2, T3, T4, T5, T6, T7, T8, T9, T10, T11}
 use Rattle.ring.specs.Tables.{moved, carried}
@@ -19,8 +22,7 @@ use Rattle.scq_table.specs.Table.{cycle, word_cycle, safe, index, bottom, join, 
 use Rattle.scq_table.specs.Stands.{Current, Blank, pair, writes, brings, swaps, closes, holds, live, behind, is_some, Fits, Does, Shared, Dead, Charged, holders, Sound, Stands}
 use Rattle.scq_table.proofs.Words.{join-cycle, join-safe, join-index, safe_low, index_low, bottom_low, or_cycle, or_safe, or_index}
 use Rattle.scq_table.proofs.Pairs.{pair_there, pair_blank}
-use Rattle.scq_table.proofs.Stations.{none, changed}
-use Rattle.scq_table.proofs.Moves.{had}
+use Rattle.scq_table.proofs.Stations.{changed}
 use Rattle.scq_table.proofs.Window.{some_place, given_up}
 use Rattle.scq_table.proofs.Charges.{charged_none, charged_less, item_back, item_on}
 use Rattle.scq_table.proofs.Emptied.{emptied_pair, emptied_none, emptied_other, emptied_shared, emptied_fits, emptied_dead, emptied_dead_on}
@@ -51,11 +53,11 @@ module _ (q : State) (m : Model) (h : Stands q m) (s : ℕ) (here : s < q.statio
       (SeekGoes.ends_with_none refl (put_same m.doing s idle) (λ x. same x ∙ sym (h.pairs x)) under why)
 
   holds_none : NothingUnder m None
-  holds_none t e = none t e
+  holds_none t e = absurd (cc)
 
   -- nothing is under a ticket that the station has given up
   nothing_under : (st : Stage) (t : ℕ) → stage q s ≡ st → t < mem.head → holds st ≡ Some t → live st ≡ None → NothingUnder m (Some t)
-  nothing_under st t at l hold gone x e = subst (λ y. m.under y ≡ None) (some_value _ _ e)
+  nothing_under st t at l hold gone x e = subst (λ y. m.under y ≡ None) (same_Some _ _ e)
       (h.pairs t ∙ given_up mem q.stations (stage q) h.charge sound s t l (ap holds at ∙ hold) (ap live at ∙ gone))
 
   -- a row of a take that leaves the words
@@ -74,14 +76,14 @@ module _ (q : State) (m : Model) (h : Stands q m) (s : ℕ) (here : s < q.statio
       tail_on = on;
       threshold_high = high;
       fits_mine = fits;
-      writes_from = λ i x. none i (sym no_write ∙ x);
+      writes_from = λ i x. absurd (cc);
       holds_from = hold;
-      swaps_late = λ x u l z y. none (u, word mem x) (sym no_swap ∙ y);
+      swaps_late = λ x u l z y. absurd (cc);
       live_on = lives;
       live_new = new;
       behind_on = behinds;
       charged = charged;
-      closes_on = λ x i y a z. none x (sym no_close ∙ z);
+      closes_on = λ x i y a z. absurd (cc);
       credit_on = credit;
     }
 
@@ -118,7 +120,7 @@ module _ (q : State) (m : Model) (h : Stands q m) (s : ℕ) (here : s < q.statio
       (λ c. shift q m h s here T2 (T3 mem.head) at (mem.head + 1) mem.tail mem.threshold h.charge Going (seeking d.0 (Some mem.head) false)
       (take_shift T2 (T3 mem.head) at (mem.head + 1) mem.tail mem.threshold (omega arith) (omega arith) sound.shared.threshold_high
       (omega arith, λ x y. omega (arith, sound.shared.blanks_low mem.head x y)) refl refl refl
-      (λ x y. inr (sym (some_value _ _ y))) (λ x y. none x y) (λ x l r. ap Some (omega arith)) (λ x l y. none x y)
+      (λ x y. inr (sym (same_Some _ _ y))) (λ x y. absurd (cc)) (λ x l r. ap Some (omega arith)) (λ x l y. absurd (cc))
       (charged_on q m h s here T2 (T3 mem.head) at (mem.head + 1) mem.tail mem.threshold refl (omega arith) (omega arith))
       (omega (arith, ints)))
       (d.0, d.1, refl) (t2_t3 mem)
@@ -148,7 +150,7 @@ module _ (q : State) (m : Model) (h : Stands q m) (s : ℕ) (here : s < q.statio
       (λ e. live_quiet (T3 t) (T5 t w) t d.0 at d.2 (p.0, p.1, ltb-true _ _ e) refl refl refl refl refl refl refl
       (d.0, d.1, refl) (t3_t5 mem t))
       (λ e. take_quiet Going (T3 t) (T6 t) (seeking d.0 (Some t) false) at p.0 refl refl refl refl (λ x y. y)
-      (λ x y. inr (Dead.overtaken (subst (λ z. cycle mem.places z < word_cycle mem.places (word mem z)) (some_value _ _ y) (later c e))))
+      (λ x y. inr (Dead.overtaken (subst (λ z. cycle mem.places z < word_cycle mem.places (word mem z)) (same_Some _ _ y) (later c e))))
       (λ x l y. y) (omega arith) (d.0, d.1, refl) (t3_t6 mem t)
       (goes_on mem (T6 t) d.0 (Some t) false (Some t) false d.2 (λ x. refl) (Ticket.keeps refl) (λ z. inl z))))
     where
@@ -163,10 +165,7 @@ module _ (q : State) (m : Model) (h : Stands q m) (s : ℕ) (here : s < q.statio
 
       later : eqb (word_cycle mem.places (word mem t)) (cycle mem.places t) ≡ false → ltb (word_cycle mem.places (word mem t)) (cycle mem.places t) ≡ false →
           cycle mem.places t < word_cycle mem.places (word mem t)
-      later c e =
-          let a = eqb-false _ _ c in
-          let b = ltb-false _ _ e in
-          ⊎_elim (λ z. absurd (a z)) (λ z. omega arith) (cases_eq (word_cycle mem.places (word mem t)) (cycle mem.places t))
+      later c e = grind (arith, nat_tests)
 
   -- rows that write a word
 
@@ -187,15 +186,15 @@ module _ (q : State) (m : Model) (h : Stands q m) (s : ℕ) (here : s < q.statio
     others = stage_other q m h s here m' st
 
     swaps_from : (r x e : ℕ) → swaps (next r) ≡ Some (x, e) → swaps (stage q r) ≡ Some (x, e)
-    swaps_from r x e y = ⊎_elim (λ z. none (x, e) (sym no_swaps ∙ z.1)) (λ z. z.1) (had (stage q) next s st mine others swaps r (x, e) y)
+    swaps_from r x e y = ⊎_elim (λ z. absurd (cc)) (λ z. z.1) (had (stage q) next s st mine others swaps r (x, e) y)
 
     others_hold : (r : ℕ) → (r ≡ s → ⊥) → holds (stage q r) ≡ Some t → ⊥
     others_hold r o y = o (sound.one_holder r s t y (ap holds at ∙ holds₀))
 
     charged_word : ((x i : ℕ) → pair m' x ≡ Some i → pair mem x ≡ Some i) → ((x : ℕ) → mem.head ≤ x → pair m' x ≡ pair mem x) → Charged m' next h.charge
     charged_word less same = charged_less mem m' (stage q) next h.charge refl (omega arith) (omega arith)
-        (item_back mem q.stations (stage q) h.charge sound s next st mine others m' less (λ x i y. none (x, i) (sym no_brings ∙ y)))
-        (λ x i l. item_on mem q.stations (stage q) h.charge sound s next st mine others m' x i (λ y. same x l ∙ y) (λ y. none (x, i) (sym (ap brings at ∙ no_brings₀) ∙ y)))
+        (item_back mem q.stations (stage q) h.charge sound s next st mine others m' less (λ x i y. absurd (cc)))
+        (λ x i l. item_on mem q.stations (stage q) h.charge sound s next st mine others m' x i (λ y. same x l ∙ y) (λ y. absurd (cc)))
         sound.charged
 
     word_keeps : Shared m' → Fits m' st → ((r : ℕ) → (r ≡ s → ⊥) → Fits m' (stage q r)) →
@@ -209,15 +208,15 @@ module _ (q : State) (m : Model) (h : Stands q m) (s : ℕ) (here : s < q.statio
       shared = shared;
       fits_mine = fits;
       fits_others = fits_others;
-      writes_from = λ i x. none i (sym no_writes ∙ x);
+      writes_from = λ i x. absurd (cc);
       pair_from = λ x i y. inl (less x i y);
       holds_from = λ x y. inl (ap holds at ∙ hold x y);
       dead_on = λ x l. dead_on x;
-      live_on = λ x y. inr (subst (Dead m' next) (some_value _ _ (sym live₀ ∙ (sym (ap live at) ∙ y))) dead);
+      live_on = λ x y. inr (subst (Dead m' next) (same_Some _ _ (sym live₀ ∙ (sym (ap live at) ∙ y))) dead);
       live_new = λ x a b. absurd (omega arith);
       behind_on = λ x l y. behinds x l (sym (ap behind at) ∙ y);
       charged = charged_word less same;
-      closes_on = λ x i y a z. none x (sym (ap closes at ∙ no_closes₀) ∙ z);
+      closes_on = λ x i y a z. absurd (cc);
       credit_on = omega (arith, ints, ap (λ x. one_if (is_some (holds x))) at);
     }
 
@@ -294,11 +293,11 @@ module _ (q : State) (m : Model) (h : Stands q m) (s : ℕ) (here : s < q.statio
           (emptied_shared mem sound.shared t ored p.0 cycle' safe' blank' not_later earlier) tt
           (λ r o. emptied_fits mem sound.shared t ored p.0 cycle' safe' blank' not_later earlier (λ b. p.1) (stage q r)
           (others_hold t ored (T4 t e) Idle at refl refl refl refl refl refl refl r o) (sound.fits r))
-          less (λ x l. rest x (λ z. omega (arith, p.0))) (λ x y. none x y)
+          less (λ x l. rest x (λ z. omega (arith, p.0))) (λ x y. absurd (cc))
           (emptied_dead_on mem sound.shared t ored p.0 cycle' safe' blank' not_later earlier (stage q) _ sound.fits
           (swaps_from t ored (T4 t e) Idle at refl refl refl refl refl refl refl))
           (emptied_dead mem sound.shared t ored p.0 cycle' safe' blank' not_later earlier _)
-          (λ x l y. absurd (omega (arith, some_value _ _ y, sound.shared.pairs_low t (index n e) there))) (omega arith);
+          (λ x l y. absurd (omega (arith, same_Some _ _ y, sound.shared.pairs_low t (index n e) there))) (omega arith);
       does_mine = refl;
       sooner = subst (λ x. Sooner mem x emptied Idle) (sym at) (t4_ends mem emptied t e);
       goes = subst (λ x. Goes m s x a ended) (sym d.2) (SeekGoes.ends_with_held t (index n e) refl (put_same m.doing s idle) leaves refl);
@@ -426,7 +425,7 @@ module _ (q : State) (m : Model) (h : Stands q m) (s : ℕ) (here : s < q.statio
       ((x : ℕ) → mem.tail ≤ x → behind st₀ ≡ Some x → behind st ≡ Some x) → Does mem st (seeking f (Some t) bare') → Sooner mem st₀ mem st →
       (bare' ≡ true → (bare ≡ true) ⊎ AllHeld m s) → Goal q m h s here Going mem st
   on_quiet st₀ st t f bare bare' at de fits w sw b c gone same behinds does sooner why =
-      take_quiet Going st₀ st (seeking f (Some t) bare') at fits w sw b c (λ x y. sym same ∙ y) (λ x y. none x (sym gone ∙ y)) behinds
+      take_quiet Going st₀ st (seeking f (Some t) bare') at fits w sw b c (λ x y. sym same ∙ y) (λ x y. absurd (cc)) behinds
       (omega (arith, ap (λ x. one_if (is_some x)) same)) does sooner
       (goes_on mem st f (Some t) bare (Some t) bare' de (λ x. refl) (Ticket.keeps refl) why)
 
@@ -437,7 +436,7 @@ module _ (q : State) (m : Model) (h : Stands q m) (s : ℕ) (here : s < q.statio
       (d.0, d.1, refl) (t6_t7 mem t (t + 1))
       (λ z. inr (all_held q m h s here (ap live at) (λ x i y l unclosed. omega (arith, p, sound.shared.pairs_low x i y)))))
       (λ c. let far = leb-false mem.tail (t + 1) c in
-      on_quiet (T6 t) (T11 t) t d.0 false false at d.2 p refl refl refl refl refl refl (λ x l y. absurd (omega (arith, some_value _ _ y)))
+      on_quiet (T6 t) (T11 t) t d.0 false false at d.2 p refl refl refl refl refl refl (λ x l y. absurd (omega (arith, same_Some _ _ y)))
       (d.0, d.1, refl) (t6_t11 mem t) (λ z. inl z))
     where
       d : Does mem (T6 t) (m.doing s)
@@ -451,7 +450,7 @@ module _ (q : State) (m : Model) (h : Stands q m) (s : ℕ) (here : s < q.statio
       (λ c. let level = eqb-true mem.tail u c in
       shift q m h s here (T7 t u v) (T10 t) at mem.head v mem.threshold h.charge Going (seeking d.0 (Some t) true)
       (take_shift (T7 t u v) (T10 t) at mem.head v mem.threshold (omega arith) (omega (arith, p.1)) sound.shared.threshold_high p.0 refl refl refl
-      (λ x y. inl y) (λ x y. none x y) (λ x l r. absurd (omega arith)) (λ x l y. absurd (omega (arith, some_value _ _ y, p.2)))
+      (λ x y. inl y) (λ x y. absurd (cc)) (λ x l r. absurd (omega arith)) (λ x l y. absurd (omega (arith, same_Some _ _ y, p.2)))
       (charged_none (with_tail mem v) (stage (moved q s (with_tail mem v) (T10 t))) h.charge p.3) (omega (arith, ints)))
       (d.0, d.1, refl) (t7_t10 mem t (with_tail mem v) u v)
       (goes_on (with_tail mem v) (T10 t) d.0 (Some t) true (Some t) true d.2 (λ x. refl) (Ticket.keeps refl) (λ z. inl refl))
@@ -478,7 +477,7 @@ module _ (q : State) (m : Model) (h : Stands q m) (s : ℕ) (here : s < q.statio
   turn_t9 : (t v : ℕ) → stage q s ≡ T9 t v → Turned Stands m s (carried q s (step mem q.limit (T9 t v)))
   turn_t9 t v at = cond_both (leb v mem.tail) _ _ (λ r. Turned Stands m s (carried q s r))
       (λ c. let past = leb-true v mem.tail c in
-      on_quiet (T9 t v) (T10 t) t d.0 true true at d.2 p.0 refl refl refl refl refl refl (λ x l y. absurd (omega (arith, some_value _ _ y, p.1)))
+      on_quiet (T9 t v) (T10 t) t d.0 true true at d.2 p.0 refl refl refl refl refl refl (λ x l y. absurd (omega (arith, same_Some _ _ y, p.1)))
       (d.0, d.1, refl) (t9_t10 mem t v) (λ z. inl refl))
       (λ c. let short = leb-false v mem.tail c in
       on_quiet (T9 t v) (T7 t mem.tail v) t d.0 true true at d.2 (p.0, omega arith, p.1, p.2) refl refl refl refl refl refl (λ x l y. y)
@@ -501,7 +500,7 @@ module _ (q : State) (m : Model) (h : Stands q m) (s : ℕ) (here : s < q.statio
   lower a st₀ st d at fits w sw b c no_hold hold gone no_behind does sooner goes =
       shift q m h s here st₀ st at mem.head mem.tail (mem.threshold -ℤ pos 1) h.charge a d
       (take_shift st₀ st at mem.head mem.tail (mem.threshold -ℤ pos 1) (omega arith) (omega arith) (omega (arith, ints, sound.shared.threshold_high)) fits w sw c
-      (λ x y. none x (sym no_hold ∙ y)) (λ x y. none x (sym gone ∙ y)) (λ x l r. absurd (omega arith)) (λ x l y. none x (sym no_behind ∙ y))
+      (λ x y. absurd (cc)) (λ x y. absurd (cc)) (λ x l r. absurd (omega arith)) (λ x l y. absurd (cc))
       (charged_on q m h s here st₀ st at mem.head mem.tail (mem.threshold -ℤ pos 1) b (omega arith) (omega arith))
       (omega (arith, ints, ap (λ x. one_if (is_some x)) no_hold, ap one_if hold)))
       does sooner goes (AddMark.stays (sym h.adds_at)) (TakeMark.stays (sym h.takes_at))
@@ -556,6 +555,4 @@ module _ (q : State) (m : Model) (h : Stands q m) (s : ℕ) (here : s < q.statio
   by_step (T11 t) at = turn_t11 t at
 
 pub means_turn : (q : State) (s : ℕ) (m : Model) → Stands q m → Turned Stands m s (turns q s)
-means_turn q s m h = cond_both (ltb s q.stations) _ _ (Turned Stands m s)
-    (λ c. by_step q m h s (ltb-true _ _ c) (stage q s) refl)
-    (λ c. TurnRefused.no_station refl (omega (arith, h.stations, ltb-false s q.stations c)))
+means_turn q s m h = turned_means Stands Idle q m s h.stations step (λ c. by_step q m h s c (stage q s) refl)

@@ -1,13 +1,12 @@
 -- What follows for tickets, pairs and slots from what the memory and the stations keep.
-use Rattle.std.proofs.Common.{◌≡◌, ℕ, ◌+◌, ◌-◌, ◌*◌, ◌<◌, ◌≤◌, Some, None, Option, sym, refl, ap, ◌∙◌, ⊎_elim, arith}
-use Rattle.ring.proofs.Options.{some_none}
+use Rattle.std.proofs.Common.{◌≡◌, ℕ, ◌+◌, ◌-◌, ◌*◌, ◌<◌, ◌≤◌, Some, None, sym, ap, ◌∙◌, ⊎_elim, arith}
 use Rattle.ring.proofs.Pigeonhole.{pigeonhole}
-use Rattle.ring.proofs.Sizes.{sized_low}
+use Rattle.ring.proofs.Checks.{sized_low}
 use Rattle.ring.proofs.Tickets.{later_cycle}
 use Rattle.scq_table.specs.declared.Stage.{Stage}
 use Rattle.scq_table.specs.Table.{cycle, word_cycle, index, Memory, word}
 use Rattle.scq_table.specs.Stands.{Current, Blank, pair, holds, live, Shared, Dead, Sound}
-use Rattle.scq_table.proofs.Pairs.{same_word, pair_is, pair_there, home}
+use Rattle.scq_table.proofs.Pairs.{same_word, pair_is, pair_there, no_pair, home}
 use Rattle.scq_table.proofs.Stations.{live_holds}
 
 pub some_place : (m : Memory) → Shared m → 1 ≤ m.places
@@ -52,11 +51,6 @@ module _ (m : Memory) (k : ℕ) (at : ℕ → Stage) (charge : ℕ → ℕ) (h :
 
   -- no pair is under a ticket that its station has given up
   pub given_up : (s t : ℕ) → t < m.head → holds (at s) ≡ Some t → live (at s) ≡ None → pair m t ≡ None
-  given_up s t l a b = go (pair m t) refl
-    where
-      go : (x : Option ℕ) → pair m t ≡ x → x ≡ None
-      go None e = refl
-      go (Some i) e =
-          let r = pair_held t i e l in
-          let same : r.0 ≡ s = h.one_holder r.0 s t (live_holds (at r.0) t r.1) a in
-          absurd (some_none t (sym r.1 ∙ (ap (λ x. live (at x)) same ∙ b)))
+  given_up s t l a b = no_pair (pair m t) (λ i e.
+      let r = pair_held t i e l in
+      let same : r.0 ≡ s = h.one_holder r.0 s t (live_holds (at r.0) t r.1) a in cc)

@@ -3,7 +3,7 @@ use Rattle.std.proofs.Common.{◌≡◌, ℕ, suc, ◌+◌, ◌-◌, ◌*◌, �
 use native.Mathlib.Nat.{div-add-mod, div-div-eq-div-mul}
 use lib.Bits.{bit_and, bit_or, and_mask, or_add_and}
 use Rattle.ring.specs.Sizes.{Sized}
-use Rattle.ring.proofs.Sizes.{sized_low}
+use Rattle.ring.proofs.Checks.{sized_low}
 use Rattle.ring.proofs.Tickets as tickets
 use Rattle.scq_table.specs.Table.{word_cycle, safe, index, bottom, join}
 

@@ -16,7 +16,7 @@
 -- Stands           the state stands for the model
 --
 -- Assumes nothing.
-use Rattle.std.specs.Prelude.{◌≡◌, ℕ, ◌+◌, ◌*◌, ◌<◌, ◌≤◌, Bool, true, false, cond, not, ◌&&◌, ◌⊎◌, length, ℤ, pos, negsuc, ◌+ℤ◌, ◌≤ℤ◌, Some, None, Option, ◌==◌, ◌≢◌}
+use Rattle.std.specs.Prelude.{◌≡◌, ℕ, ◌+◌, ◌*◌, ◌<◌, ◌≤◌, Bool, true, false, if◌then◌else◌, not, ◌&&◌, ◌⊎◌, length, ℤ, pos, negsuc, ◌+ℤ◌, ◌≤ℤ◌, Some, None, Option, ◌==◌, ◌≢◌}
 use Rattle.ring.specs.Model.{Doing, idle, adding, closing, seeking, Model}
 use Rattle.ring.specs.Scans.{count_below}
 use Rattle.ring.specs.Sizes.{Sized}
@@ -33,9 +33,9 @@ abbrev pub Blank : Memory → ℕ → Type 0
 Blank m w = index m.places w ≡ bottom m.places
 
 abbrev pub pair : Memory → ℕ → Option ℕ
-pair m t = cond
-    (word_cycle m.places (word m t) == cycle m.places t && not (index m.places (word m t) == bottom m.places))
-    (Some (index m.places (word m t))) None
+pair m t =
+    if word_cycle m.places (word m t) == cycle m.places t && not (index m.places (word m t) == bottom m.places)
+    then Some (index m.places (word m t)) else None
 
 -- what a station has in its registers, by what it is for
 pub record Registers : Type 0 where

@@ -10,17 +10,16 @@
 -- empty, full      a new ring
 -- adds, takes      what a begin-add and a begin-take do
 -- turns            what a turn does
+-- steps            all that the table says, as one record
 --
 -- Assumes nothing.
-use Rattle.std.specs.Prelude.{ℕ, ◌+◌, ◌-◌, ◌*◌, ◌/◌, ◌%◌, Bool, true, false, cond, not, ◌&&◌, List, map, replicate, ℤ, pos, negsuc, ◌-ℤ◌, Some, None, Ok, Err, Result, ◌==◌, bit_or, int_le, int_lt, nat_le, nat_lt, slice_index, slice_set}
+use Rattle.std.specs.Prelude.{ℕ, ◌+◌, ◌-◌, ◌*◌, ◌/◌, ◌%◌, Bool, true, false, if◌then◌else◌, ◌&&◌, List, map, replicate, ℤ, pos, negsuc, ◌-ℤ◌, Some, None, Ok, Err, Result, ◌==◌, bit_or, int_le, int_lt, nat_le, nat_lt, slice_index, slice_set}
 use Rattle.std.specs.List.{range_with_len}
 use Rattle.ring.specs.declared.Progress.TheVariants.{Going, Added, Taken}
 use Rattle.ring.specs.declared.Refusal.{Refusal}
 use Rattle.ring.specs.declared.Refusal.TheVariants.{NoCall, AtLimit}
-use Rattle.ring.specs.Sizes.{make_checked}
-use Rattle.ring.specs.Scans.{any_below}
 use Rattle.ring.specs.Tables as tables
-use Rattle.ring.specs.Tables.{stage_of, turned, add_begun, take_begun, made}
+use Rattle.ring.specs.Tables.{stage_of, Steps}
 use Rattle.scq_table.specs.declared.Stage.{Stage}
 use Rattle.scq_table.specs.declared.Stage.TheVariants.{Idle, A1, A2, A3, A4, A5, A6, T1, T2, T3, T4, T5, T6, T7, T8, T9, T10, T11}
 
@@ -101,50 +100,46 @@ Row = tables.Row Memory Stage
 -- otherwise A4 if it is safe, A3 if not
 abbrev pub a2 : Memory → ℕ → ℕ → ℕ → Row
 a2 m i t e =
-    cond (nat_lt (word_cycle m.places e) (cycle m.places t) && index m.places e == bottom m.places)
-    (cond (safe m.places e == 1) (Ok (Going, m, A4 i t e)) (Ok (Going, m, A3 i t e)))
-    (Ok (Going, m, A1 i))
+    if nat_lt (word_cycle m.places e) (cycle m.places t) && index m.places e == bottom m.places then
+    (if safe m.places e == 1 then Ok (Going, m, A4 i t e) else Ok (Going, m, A3 i t e))
+    else Ok (Going, m, A1 i)
 
 -- T3, the word e loaded at ticket h: of h's cycle, T4; of a lower one, T5; of a higher one, T6
 abbrev pub t3 : Memory → ℕ → ℕ → Row
 t3 m h e =
-    cond (word_cycle m.places e == cycle m.places h) (Ok (Going, m, T4 h e))
-    (cond (nat_lt (word_cycle m.places e) (cycle m.places h)) (Ok (Going, m, T5 h e))
-    (Ok (Going, m, T6 h)))
+    if word_cycle m.places e == cycle m.places h then Ok (Going, m, T4 h e)
+    else if nat_lt (word_cycle m.places e) (cycle m.places h) then Ok (Going, m, T5 h e)
+    else Ok (Going, m, T6 h)
 
 -- what T5 writes over the word e at ticket h: an empty word comes to h's cycle, and a word with an
 -- older pair keeps it and is safe no more
 abbrev pub spoilt : ℕ → ℕ → ℕ → ℕ
-spoilt n h e = cond (index n e == bottom n)
-    (join n (cycle n h) (safe n e) (bottom n))
-    (join n (word_cycle n e) 0 (index n e))
+spoilt n h e = if index n e == bottom n then join n (cycle n h) (safe n e) (bottom n)
+    else join n (word_cycle n e) 0 (index n e)
 
 -- l is the ticket limit
 abbrev pub step : Memory → ℕ → Stage → Row
 step m l Idle = Err NoCall
-step m l (A1 i) = cond (m.tail == l) (Err AtLimit) (Ok (Going, with_tail m (m.tail + 1), A2 i m.tail))
+step m l (A1 i) = if m.tail == l then Err AtLimit else Ok (Going, with_tail m (m.tail + 1), A2 i m.tail)
 step m l (A2 i t) = a2 m i t (word m t)
-step m l (A3 i t e) = cond (nat_le m.head t) (Ok (Going, m, A4 i t e)) (Ok (Going, m, A1 i))
-step m l (A4 i t e) = cond (word m t == e)
-    (Ok (Going, with_word m t (join m.places (cycle m.places t) 1 i), A5 t))
-    (Ok (Going, m, A2 i t))
-step m l (A5 t) = cond (int_equal m.threshold (top m.places)) (Ok (Added, m, Idle)) (Ok (Going, m, A6 t))
+step m l (A3 i t e) = if nat_le m.head t then Ok (Going, m, A4 i t e) else Ok (Going, m, A1 i)
+step m l (A4 i t e) = if word m t == e then Ok (Going, with_word m t (join m.places (cycle m.places t) 1 i), A5 t)
+    else Ok (Going, m, A2 i t)
+step m l (A5 t) = if int_equal m.threshold (top m.places) then Ok (Added, m, Idle) else Ok (Going, m, A6 t)
 step m l (A6 t) = Ok (Added, with_threshold m (top m.places), Idle)
-step m l T1 = cond (int_lt m.threshold (pos 0)) (Ok (Taken None, m, Idle)) (Ok (Going, m, T2))
-step m l T2 = cond (m.head == l) (Err AtLimit) (Ok (Going, with_head m (m.head + 1), T3 m.head))
+step m l T1 = if int_lt m.threshold (pos 0) then Ok (Taken None, m, Idle) else Ok (Going, m, T2)
+step m l T2 = if m.head == l then Err AtLimit else Ok (Going, with_head m (m.head + 1), T3 m.head)
 step m l (T3 h) = t3 m h (word m h)
 step m l (T4 h e) = Ok (Taken (Some (index m.places e)), with_word m h (bit_or (word m h) (bottom m.places)), Idle)
-step m l (T5 h e) = cond (word m h == e)
-    (Ok (Going, with_word m h (spoilt m.places h e), T6 h))
-    (Ok (Going, m, T3 h))
-step m l (T6 h) = cond (nat_le m.tail (h + 1)) (Ok (Going, m, T7 h m.tail (h + 1))) (Ok (Going, m, T11 h))
-step m l (T7 h u v) = cond (m.tail == u) (Ok (Going, with_tail m v, T10 h)) (Ok (Going, m, T8 h))
+step m l (T5 h e) = if word m h == e then Ok (Going, with_word m h (spoilt m.places h e), T6 h)
+    else Ok (Going, m, T3 h)
+step m l (T6 h) = if nat_le m.tail (h + 1) then Ok (Going, m, T7 h m.tail (h + 1)) else Ok (Going, m, T11 h)
+step m l (T7 h u v) = if m.tail == u then Ok (Going, with_tail m v, T10 h) else Ok (Going, m, T8 h)
 step m l (T8 h) = Ok (Going, m, T9 h m.head)
-step m l (T9 h v) = cond (nat_le v m.tail) (Ok (Going, m, T10 h)) (Ok (Going, m, T7 h m.tail v))
+step m l (T9 h v) = if nat_le v m.tail then Ok (Going, m, T10 h) else Ok (Going, m, T7 h m.tail v)
 step m l (T10 h) = Ok (Taken None, with_threshold m (m.threshold -ℤ pos 1), Idle)
-step m l (T11 h) = cond (int_le m.threshold (pos 0))
-    (Ok (Taken None, with_threshold m (m.threshold -ℤ pos 1), Idle))
-    (Ok (Going, with_threshold m (m.threshold -ℤ pos 1), T2))
+step m l (T11 h) = if int_le m.threshold (pos 0) then Ok (Taken None, with_threshold m (m.threshold -ℤ pos 1), Idle)
+    else Ok (Going, with_threshold m (m.threshold -ℤ pos 1), T2)
 
 -- rings
 
@@ -157,9 +152,6 @@ Outcome = tables.Outcome Memory Stage
 -- where station s's call stands
 abbrev pub stage : State → ℕ → Stage
 stage = stage_of Idle
-
-abbrev pub turns : State → ℕ → Outcome
-turns = turned Idle step
 
 -- begins
 
@@ -208,17 +200,6 @@ is_adding i (T11 h) = false
 abbrev pub is_there : Memory → ℕ → ℕ → Bool
 is_there m i j = index m.places (slice_index m.words j) == i
 
-abbrev pub is_outside : State → ℕ → Bool
-is_outside q i =
-    not (any_below (2 * q.memory.places) (is_there q.memory i)) &&
-    not (any_below q.stations (λ s. is_adding i (stage q s)))
-
-abbrev pub adds : State → ℕ → ℕ → Outcome
-adds q s i = add_begun Idle is_idle q.memory.places (is_outside q i) (A1 i) q s i
-
-abbrev pub takes : State → ℕ → Outcome
-takes = take_begun Idle is_idle T1
-
 -- makes
 
 -- the first ticket of cycle 1 is the next to be taken
@@ -232,11 +213,45 @@ new_ring n k l t z ws = record {
 
 -- the words of a new ring: of cycle 1, safe and with index j at slot j below c; the others of cycle 0,
 -- safe and empty
+abbrev pub word_of_new : ℕ → ℕ → ℕ → ℕ
+word_of_new n c j = if nat_lt j c then join n 1 1 j else join n 0 1 (bottom n)
+
 unfoldable pub new_words : ℕ → ℕ → List ℕ
-new_words n c = map (λ j. cond (nat_lt j c) (join n 1 1 j) (join n 0 1 (bottom n))) (range_with_len 0 128)
+new_words n c = map (word_of_new n c) (range_with_len 0 128)
+
+-- all that the table says
+
+abbrev pub steps : Steps Memory Stage
+steps = record {
+  idle = Idle;
+  is_idle = is_idle;
+  adding = A1;
+  taking = T1;
+  is_adding = is_adding;
+  places = λ m. m.places;
+  slots = λ m. 2 * m.places;
+  is_there = is_there;
+  step = step;
+  empty = λ n. record { places = n; head = 2 * n; tail = 2 * n; threshold = negsuc 0; words = new_words n 0 };
+  full = λ n. record { places = n; head = 2 * n; tail = 3 * n; threshold = top n; words = new_words n n };
+}
+
+-- calls
 
 abbrev pub empty : ℕ → ℕ → ℕ → Result State Refusal
-empty n k l = made (make_checked n k l) (new_ring n k l (2 * n) (negsuc 0) (new_words n 0))
+empty = tables.empty steps
 
 abbrev pub full : ℕ → ℕ → ℕ → Result State Refusal
-full n k l = made (make_checked n k l) (new_ring n k l (3 * n) (top n) (new_words n n))
+full = tables.full steps
+
+abbrev pub is_outside : State → ℕ → Bool
+is_outside = tables.is_outside steps
+
+abbrev pub adds : State → ℕ → ℕ → Outcome
+adds = tables.adds steps
+
+abbrev pub takes : State → ℕ → Outcome
+takes = tables.takes steps
+
+abbrev pub turns : State → ℕ → Outcome
+turns = tables.turns steps

@@ -7,9 +7,11 @@ ghost use Rattle.scq_table.specs.Table.{State, empty, full, adds, takes, turns};
 ghost use Rattle.scq_table.specs.Stands.{Stands};
 ghost use Rattle.scq_table.specs.Example.{MidAddStands};
 
+use std::fmt;
+
 // Where a station's call stands: the step that its next turn makes, with the station's own registers.
 // A1 to A6 add an index, T1 to T11 take one.
-#[derive(Clone, Copy)]
+#[derive(Clone, Copy, Debug, PartialEq, Eq)]
 pub enum Stage {
     // no call in progress
     Idle,
@@ -87,6 +89,32 @@ pub enum Stage {
     T11 {
         ticket: usize,
     },
+}
+
+// The name of the step.
+impl fmt::Display for Stage {
+    fn fmt<W: fmt::Write>(&self, f: &mut fmt::Formatter<W>) -> fmt::Result {
+        f.pad(match self {
+            Stage::Idle => "idle",
+            Stage::A1 { .. } => "A1",
+            Stage::A2 { .. } => "A2",
+            Stage::A3 { .. } => "A3",
+            Stage::A4 { .. } => "A4",
+            Stage::A5 { .. } => "A5",
+            Stage::A6 { .. } => "A6",
+            Stage::T1 => "T1",
+            Stage::T2 => "T2",
+            Stage::T3 { .. } => "T3",
+            Stage::T4 { .. } => "T4",
+            Stage::T5 { .. } => "T5",
+            Stage::T6 { .. } => "T6",
+            Stage::T7 { .. } => "T7",
+            Stage::T8 { .. } => "T8",
+            Stage::T9 { .. } => "T9",
+            Stage::T10 { .. } => "T10",
+            Stage::T11 { .. } => "T11",
+        })
+    }
 }
 
 // Whatever calls come, in whatever order, the table does what a ring may do.

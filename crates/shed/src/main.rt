@@ -3,12 +3,10 @@
 
 #![tactic(auto)]
 
-ghost use Rattle.std.specs.Prelude.{◌<◌};
-
 mod shed;
 mod shown;
 
-use crate::shed::Shed;
+use crate::shed::{Shed, Station};
 use crate::shown::Shown;
 use ncq::Ncq;
 use scq::Scq;
@@ -19,19 +17,20 @@ const STATIONS: usize = 2;
 
 fn story<R: Shown>(rt: &HostRuntime) -> anyhow::Result<()> {
     let mut shed = Shed::<R>::open(rt)?;
+    let (first, second) = (Station::FIRST, Station::SECOND);
     let headings = R::headings();
     println!(rt; "line  station  step         {headings}answer")?;
-    pass(rt, &mut shed, 0, 0, 1)?;
-    shed.add(rt, 0, 1)?;
-    shed.turn(rt, 0)?;
-    shed.turn(rt, 0)?;
+    pass(rt, &mut shed, first, 0, second)?;
+    shed.add(rt, first, 1)?;
+    shed.turn(rt, first)?;
+    shed.turn(rt, first)?;
     println!(rt; "      station 0 has loaded a word and falls silent")?;
-    pass(rt, &mut shed, 1, 0, 1)?;
-    pass(rt, &mut shed, 1, 0, 1)?;
+    pass(rt, &mut shed, second, 0, second)?;
+    pass(rt, &mut shed, second, 0, second)?;
     println!(rt; "      station 0 comes back, and its word is no longer there")?;
-    shed.finish(rt, 0)?;
-    shed.take(rt, 1)?;
-    shed.finish(rt, 1)?;
+    shed.finish(rt, first)?;
+    shed.take(rt, second)?;
+    shed.finish(rt, second)?;
     println!(rt; "")?;
     shed.print_summary(rt)
 }
@@ -40,12 +39,10 @@ fn story<R: Shown>(rt: &HostRuntime) -> anyhow::Result<()> {
 fn pass<R: Shown>(
     rt: &HostRuntime,
     shed: &mut Shed<R>,
-    from: usize,
+    from: Station,
     index: usize,
-    to: usize,
-) -> anyhow::Result<()>
-    requires { (from < 2) × (to < 2) }
-{
+    to: Station,
+) -> anyhow::Result<()> {
     shed.add(rt, from, index)?;
     shed.finish(rt, from)?;
     shed.take(rt, to)?;

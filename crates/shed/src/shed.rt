@@ -5,36 +5,31 @@ ghost use Rattle.std.specs.Prelude.{◌≡◌, ◌<◌};
 use crate::shown::Shown;
 use crate::{PLACES, STATIONS};
 use anyhow::anyhow;
-use ring::{Progress, Refusal, Ring};
+use ring::{Answer, Progress, Refusal};
 use std::alloc::AllocError;
-use std::error::Error;
 use std::fmt;
 
 // a call ends within 16 lone turns for each place, and 16 more
 const MOST_TURNS: usize = 16 * PLACES + 16;
 
-// The number of a refusal, which ends the program.
-#[derive(Debug, Drop)]
-pub(crate) struct Refused {
-    number: u32,
+// A station of the story.
+#[derive(Clone, Copy)]
+pub(crate) struct Station {
+    number: usize,
+    ghost known: { number < 2 },
 }
 
-impl From<Refusal> for Refused {
-    fn from(refusal: Refusal) -> Refused {
-        Refused {
-            number: refusal.number(),
-        }
-    }
+impl Station {
+    pub(crate) const FIRST: Station = Station { number: 0 };
+
+    pub(crate) const SECOND: Station = Station { number: 1 };
 }
 
-impl fmt::Display for Refused {
+impl fmt::Display for Station {
     fn fmt<W: fmt::Write>(&self, f: &mut fmt::Formatter<W>) -> fmt::Result {
-        let number = self.number;
-        write!(f, "the call is refused with {number}")
+        self.number.fmt(f)
     }
 }
-
-impl Error for Refused {}
 
 // What the ring told of a call, with the number of the answer.
 #[derive(Clone, Copy)]
@@ -42,7 +37,7 @@ struct Told(Progress);
 
 impl fmt::Display for Told {
     fn fmt<W: fmt::Write>(&self, f: &mut fmt::Formatter<W>) -> fmt::Result {
-        let number = self.0.answer().number();
+        let number = Answer::from(self.0).number();
         match self.0 {
             Progress::Going => write!(f, "{number} going on"),
             Progress::Added => write!(f, "{number} added"),
@@ -62,7 +57,7 @@ struct Call {
 // Who added an index last, and in how many turns.
 #[derive(Clone, Copy)]
 struct Added {
-    by: usize,
+    by: Station,
     turns: u32,
 }
 
@@ -70,8 +65,8 @@ struct Added {
 #[derive(Clone, Copy)]
 struct Passed {
     index: usize,
-    from: usize,
-    to: usize,
+    from: Station,
+    to: Station,
     // of its add and of its take together
     turns: u32,
 }
@@ -89,7 +84,7 @@ pub(crate) struct Shed<R> {
 }
 
 impl<R: Shown> Shed<R> {
-    pub(crate) fn open(rt: &HostRuntime) -> Result<Shed<R>, Refused> {
+    pub(crate) fn open(rt: &HostRuntime) -> Result<Shed<R>, Refusal> {
         Ok(Shed {
             ring: R::make_empty(PLACES, STATIONS, 100)?,
             lines: 0,
@@ -105,41 +100,35 @@ impl<R: Shown> Shed<R> {
     pub(crate) fn add(
         &mut self,
         rt: &HostRuntime,
-        station: usize,
+        station: Station,
         index: usize,
-    ) -> anyhow::Result<()>
-        requires { station < 2 }
-    {
+    ) -> anyhow::Result<()> {
         let progress = self.begin_add(station, index)?;
         let step = format!(in rt.alloc(); "begin add {index}")?;
         self.print(rt, station, &step, None, progress)
     }
 
-    fn begin_add(&mut self, station: usize, index: usize) -> Result<Progress, Refused>
-        requires { station < 2 }
-        ensures { R.Ring.view self.new.ring ≡ (R.Ring.adds (R.Ring.view self.old.ring) station index).1 }
+    fn begin_add(&mut self, station: Station, index: usize) -> Result<Progress, Refusal>
+        ensures { R.Ring.view self.new.ring ≡ (R.Ring.adds (R.Ring.view self.old.ring) station.number index).1 }
     {
-        let progress = self.ring.begin_add(station, index)?;
-        self.calls[station] = Call {
+        let progress = self.ring.begin_add(station.number, index)?;
+        self.calls[station.number] = Call {
             adds: Some(index),
             turns: 0,
         };
         Ok(progress)
     }
 
-    pub(crate) fn take(&mut self, rt: &HostRuntime, station: usize) -> anyhow::Result<()>
-        requires { station < 2 }
-    {
+    pub(crate) fn take(&mut self, rt: &HostRuntime, station: Station) -> anyhow::Result<()> {
         let progress = self.begin_take(station)?;
-        self.print(rt, station, "begin take", None, progress)
+        self.print(rt, station, &"begin take", None, progress)
     }
 
-    fn begin_take(&mut self, station: usize) -> Result<Progress, Refused>
-        requires { station < 2 }
-        ensures { R.Ring.view self.new.ring ≡ (R.Ring.takes (R.Ring.view self.old.ring) station).1 }
+    fn begin_take(&mut self, station: Station) -> Result<Progress, Refusal>
+        ensures { R.Ring.view self.new.ring ≡ (R.Ring.takes (R.Ring.view self.old.ring) station.number).1 }
     {
-        let progress = self.ring.begin_take(station)?;
-        self.calls[station] = Call {
+        let progress = self.ring.begin_take(station.number)?;
+        self.calls[station.number] = Call {
             adds: None,
             turns: 0,
         };
@@ -147,56 +136,50 @@ impl<R: Shown> Shed<R> {
     }
 
     // The station's turns to the end of its call.
-    pub(crate) fn finish(&mut self, rt: &HostRuntime, station: usize) -> anyhow::Result<()>
-        requires { station < 2 }
-    {
+    pub(crate) fn finish(&mut self, rt: &HostRuntime, station: Station) -> anyhow::Result<()> {
         for _ in 0..MOST_TURNS {
-            if !matches!(self.turn(rt, station)?, Progress::Going) {
+            if self.turn(rt, station)? != Progress::Going {
                 return Ok(());
             }
         }
         Err(anyhow!("the call goes on"))
     }
 
-    pub(crate) fn turn(&mut self, rt: &HostRuntime, station: usize) -> anyhow::Result<Progress>
-        requires { station < 2 }
-    {
-        let step = self.ring.step(station);
-        let slot = self.ring.slot(station);
+    pub(crate) fn turn(&mut self, rt: &HostRuntime, station: Station) -> anyhow::Result<Progress> {
+        let step = self.ring.step(station.number).ok_or(Refusal::NoStation)?;
         let progress = self.make_turn(station)?;
         self.note(station, progress)?;
-        self.print(rt, station, step, slot, progress)?;
+        self.print(rt, station, &step, Some(step), progress)?;
         Ok(progress)
     }
 
-    fn make_turn(&mut self, station: usize) -> Result<Progress, Refused>
-        requires { station < 2 }
-        ensures { R.Ring.view self.new.ring ≡ (R.Ring.turns (R.Ring.view self.old.ring) station).1 }
+    fn make_turn(&mut self, station: Station) -> Result<Progress, Refusal>
+        ensures { R.Ring.view self.new.ring ≡ (R.Ring.turns (R.Ring.view self.old.ring) station.number).1 }
     {
-        let progress = self.ring.turn(station)?;
-        let call = &mut self.calls[station];
+        let progress = self.ring.turn(station.number)?;
+        let call = &mut self.calls[station.number];
         call.turns = call.turns.saturating_add(1);
         Ok(progress)
     }
 
     // Keeps what the end of a call says of an index.
-    fn note(&mut self, station: usize, progress: Progress) -> Result<(), AllocError>
-        requires { station < 2 }
+    fn note(&mut self, station: Station, progress: Progress) -> Result<(), AllocError>
         ensures { self.new.ring ≡ self.old.ring }
     {
-        let Call { adds, turns } = self.calls[station];
+        let Call { adds, turns } = self.calls[station.number];
         match (progress, adds) {
-            (Progress::Added, Some(index)) if index < PLACES => {
-                self.added[index] = Some(Added { by: station, turns });
+            (Progress::Added, Some(index)) => {
+                if let Some(last) = self.added.get_mut(index) {
+                    *last = Some(Added { by: station, turns });
+                }
             }
-            (Progress::Taken(Some(index)), _) if index < PLACES => {
-                if let Some(added) = self.added[index] {
-                    let turns = added.turns.saturating_add(turns);
+            (Progress::Taken(Some(index)), _) => {
+                if let Some(Some(added)) = self.added.get(index) {
                     self.passed.push(Passed {
                         index,
                         from: added.by,
                         to: station,
-                        turns,
+                        turns: added.turns.saturating_add(turns),
                     })?;
                 }
             }
@@ -205,33 +188,33 @@ impl<R: Shown> Shed<R> {
         Ok(())
     }
 
-    // A line of the table, with the word at the slot.
+    // A line of the table, with the ring's own columns.
     fn print(
         &mut self,
         rt: &HostRuntime,
-        station: usize,
-        step: &str,
-        slot: Option<usize>,
+        station: Station,
+        name: &impl fmt::Display,
+        step: Option<R::Step>,
         progress: Progress,
     ) -> anyhow::Result<()>
         ensures { self.new.ring ≡ self.old.ring }
     {
         self.lines = self.lines.saturating_add(1);
         let line = self.lines;
+        let station = station.number;
+        let columns = self.ring.columns(step);
         let told = Told(progress);
-        let columns = self.ring.columns(slot);
-        println!(rt; "{line:>4}  {station:>7}  {step:<11}  {columns}{told}")?;
+        println!(rt; "{line:>4}  {station:>7}  {name:<11}  {columns}{told}")?;
         Ok(())
     }
 
     pub(crate) fn print_summary(&self, rt: &HostRuntime) -> anyhow::Result<()> {
-        for passed in self.passed.iter() {
-            let Passed {
-                index,
-                from,
-                to,
-                turns,
-            } = *passed;
+        for &Passed {
+            index,
+            from,
+            to,
+            turns,
+        } in &self.passed {
             println!(rt;
                 "index {index} went from station {from} to station {to} in {turns} turns"
             )?;

@@ -1,20 +1,15 @@
-use Rattle.std.proofs.Common.{◌<◌, ◌≢◌, length, refl, arith, length-set, get_or-set_other, get_or-set_same, below_more}
-use Rattle.ring.proofs.Entries.{get_or-same}
-use Rattle.ncq.proofs.Words.{full_words_are}
+use Rattle.std.proofs.Common.{◌≡◌, ℕ, ◌+◌, ◌*◌, cond, ltb, refl, ap, ◌∙◌, mul-zero, zero-add, rules}
+use Rattle.ring.proofs.Arrays.{from_fn_is}
+use borrow.Author.Tests.{tests}
+use Rattle.ncq_table.specs.Table.{full_words}
 use Rattle.ncq.proofs.words_of_all.Goals as goal
 
-pub loop-slot-init : goal.loop-slot-init
-loop-slot-init c = (refl, λ k h. absurd (omega arith), λ k h. get_or-same 64 k 0)
-
-pub loop-slot-preserved : goal.loop-slot-preserved
-loop-slot-preserved c = (
-  simp length-set c.loop-slot.invariant.0,
-  below_more _ _
-      (λ k h. let ne : k ≢ c.loop-slot.slot = omega arith in rw get_or-set_other (c.loop-slot.invariant.1 k h))
-      (let lt : c.loop-slot.slot < length c.loop-slot.words = omega arith in rw get_or-set_same refl),
-  λ k h. let ne : k ≢ c.loop-slot.slot = omega arith in rw get_or-set_other (c.loop-slot.invariant.2 k (omega arith)),
-)
+-- a word of cycle 0 is its index
+in_cycle_0 : (n i : ℕ) → cond (ltb i n) i 0 ≡ cond (ltb i n) (n * 0 + i) 0
+in_cycle_0 n i = ap (λ x. cond (ltb i n) x 0) (simp (mul-zero, zero-add) refl)
 
 pub returns : goal.returns
-returns c = full_words_are c.args.places c.loop-slot.words c.loop-slot.invariant.0
-    (λ k h. c.loop-slot.invariant.1 k (omega arith)) (λ k h. c.loop-slot.invariant.2 k (omega arith))
+unfolding full_words
+returns c =
+    let n = c.args.places in
+    from_fn_is _ _ (λ j. cond (ltb j n) (n * 0 + j) 0) (λ i y q k. (search (rules, tests), search (rules, tests) ∙ in_cycle_0 n i)) _ 64 0 c.from_fn.ensures.items
