@@ -6,7 +6,7 @@ ghost use Rattle.std.specs.Prelude.{◌≡◌, ◌<◌, ◌==◌, if◌then◌el
 ghost use Rattle.ring.specs.declared.Refusal.TheVariants.{AtLimit};
 ghost use Rattle.ring.specs.Tables.{TellsAlways};
 ghost use Rattle.ncq_table.specs.Table as rows;
-ghost use Rattle.ncq_table.specs.declared.Stage.TheVariants.{N1, N2, N4, N6, N7, N8};
+ghost use Rattle.ncq_table.specs.declared.Stage.TheVariants.{N2, N4, N7};
 ghost use Rattle.ncq_table.specs.Table.{full_words, steps};
 ghost use Rattle.ncq_table.specs.Stands.{Stands};
 ghost use Rattle.ncq.specs.View.{view};
@@ -88,7 +88,7 @@ impl Memory for NcqMemory {
     }
 
     fn is_idle(stage: Stage) -> bool {
-        matches!(stage, Stage::Idle)
+        stage == Stage::Idle
     }
 
     fn adding(index: usize) -> Stage {
@@ -143,7 +143,7 @@ impl Memory for NcqMemory {
     }
 }
 
-// The ticket that the counter stands at, below the limit.
+// The ticket that the counter stands at. At the limit there is none.
 fn ticket_at(counter: usize, limit: usize) -> Result<usize, Refusal>
     ensures { result ≡ (if counter == limit then Err AtLimit else Ok counter) }
 {
@@ -173,7 +173,7 @@ impl NcqMemory {
     }
 
     // The word at the ticket's slot.
-    fn word(&self, ticket: usize) -> usize
+    fn word_at(&self, ticket: usize) -> usize
         ensures { result ≡ rows.word (view self.now) ticket }
     {
         self.words[ticket % self.places]
@@ -186,11 +186,11 @@ impl NcqMemory {
         self.cycle(ticket).checked_sub(self.cycle(word))
     }
 
-    // N2
+    // N2: loads the word at the ticket's slot.
     fn load_to_add(&self, index: usize, ticket: usize) -> Row<Stage>
         ensures { TellsAlways steps (view self.now) (N2 index ticket) result (view self.now) }
     {
-        let word = self.word(ticket);
+        let word = self.word_at(ticket);
         match self.age(word, ticket) {
             Some(0) => going(Stage::N3 { index, ticket }),
             Some(1) => going(Stage::N4 {
@@ -202,7 +202,7 @@ impl NcqMemory {
         }
     }
 
-    // N4
+    // N4: writes the pair over the word that N2 loaded, if it is still there.
     fn write(&mut self, index: usize, ticket: usize, word: usize) -> Row<Stage>
         requires { (index < self.old.places) × (ticket < 999999999) }
         ensures { TellsAlways steps (view self.old) (N4 index ticket word) result (view self.new) }
@@ -215,11 +215,11 @@ impl NcqMemory {
         }
     }
 
-    // N7
+    // N7: loads the word at the ticket's slot.
     fn load_to_take(&self, ticket: usize) -> Row<Stage>
         ensures { TellsAlways steps (view self.now) (N7 ticket) result (view self.now) }
     {
-        let word = self.word(ticket);
+        let word = self.word_at(ticket);
         match self.age(word, ticket) {
             Some(0) => going(Stage::N8 { ticket, word }),
             Some(1) => Ok((Progress::Taken(None), Stage::Idle)),

@@ -18,9 +18,6 @@ use Rattle.ncq_table.proofs.Pairs.{pair_there, pair_passed, pair_cycle}
 use Rattle.ncq_table.proofs.Window.{filled_low}
 use Rattle.ncq_table.proofs.Built.{each_once}
 
-all_idle : (s : ℕ) → get_or (replicate 64 Idle) s Idle ≡ Idle
-all_idle s = get_or-same 64 s Idle
-
 -- a ring of which no call has been made
 module _ (n k l h : ℕ) (ws : List ℕ) (sized : Sized n) (few : k ≤ n) (low : h ≤ n) (shared : Shared (new_ring n k l h ws).memory n) where
   abbrev q : State
@@ -35,9 +32,9 @@ module _ (n k l h : ℕ) (ws : List ℕ) (sized : Sized n) (few : k ≤ n) (low 
     sound = record {
       shared = shared;
       table_room = omega (arith, length-replicate 64 Idle, sized_high n sized);
-      beyond = λ s g. all_idle s;
-      fits = λ s. subst (Fits q.memory n) (sym (all_idle s)) tt;
-      one_writer = λ s r i w v. absurd (cc (all_idle s));
+      beyond = λ s g. get_or-same 64 s Idle;
+      fits = λ s. subst (Fits q.memory n) (sym (get_or-same 64 s Idle)) tt;
+      one_writer = λ s r i w v. absurd (cc (get_or-same 64 s Idle));
     };
     places = refl;
     stations = refl;
@@ -45,8 +42,8 @@ module _ (n k l h : ℕ) (ws : List ℕ) (sized : Sized n) (few : k ≤ n) (low 
     pairs = λ t. refl;
     adds_at = refl;
     takes_at = refl;
-    does = λ s. subst (λ x. Does q.memory x idle) (sym (all_idle s)) refl;
-    ends_soon = λ s. subst (λ x. 0 + left q.memory n x ≤ 9) (sym (all_idle s)) (omega arith);
+    does = λ s. subst (λ x. Does q.memory x idle) (sym (get_or-same 64 s Idle)) refl;
+    ends_soon = λ s. subst (λ x. 0 + left q.memory n x ≤ 9) (sym (get_or-same 64 s Idle)) (omega arith);
   }
 
   pub new_holds : (filled : Model → Type 0) → filled new → (m : Model) × (New n k l m × filled m × Stands q m)

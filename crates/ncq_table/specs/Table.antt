@@ -142,14 +142,6 @@ is_there m i j =
 
 -- makes
 
-abbrev pub new_ring : ℕ → ℕ → ℕ → ℕ → List ℕ → State
-new_ring n k l h ws = record {
-  stations = k;
-  limit = l;
-  memory = record { places = n; head = h; tail = n; words = ws };
-  stages = replicate 64 Idle;
-}
-
 -- the words of a full ring: of cycle 0 and index j at slot j
 unfoldable pub full_words : ℕ → List ℕ
 full_words n = map (λ j. if nat_lt j n then join n 0 j else 0) (range_with_len 0 64)
@@ -170,6 +162,10 @@ steps = record {
   empty = λ n. record { places = n; head = n; tail = n; words = replicate 64 0 };
   full = λ n. record { places = n; head = 0; tail = n; words = full_words n };
 }
+
+-- a new ring, with the next take at ticket h
+abbrev pub new_ring : ℕ → ℕ → ℕ → ℕ → List ℕ → State
+new_ring n k l h ws = tables.opened steps k l (record { places = n; head = h; tail = n; words = ws })
 
 -- calls
 

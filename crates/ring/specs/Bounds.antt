@@ -1,6 +1,6 @@
 -- Bounds that keep a ring's numbers far from the ends of their types.
 --
--- Fitting          the sizes of a ring that may be made
+-- Fitting          what the bounds ask of a ring's sizes
 -- KeepsBounds      a new ring is within the bounds, each call keeps them, and within them each step is safe
 --
 -- Assumes nothing.

@@ -19,8 +19,7 @@ ghost use Rattle.ring.specs.Cells.{swapped};
 mod sizes;
 
 pub use sizes::Sizes;
-use std::error::Error;
-use std::fmt;
+use thiserror::Error;
 
 // What a caller is told of an accepted call, by its number.
 #[derive(Clone, Copy, Debug, PartialEq, Eq)]
@@ -38,7 +37,8 @@ pub enum Answer {
 }
 
 // Why a call was refused, by its number. A refused call changes nothing.
-#[derive(Clone, Copy, Debug, PartialEq, Eq)]
+#[derive(Clone, Copy, Debug, PartialEq, Eq, Error)]
+#[error("the call is refused with {}", self.number())]
 pub enum Refusal {
     // the number of places is not a power of two from 1 to 64
     Places = 1,
@@ -86,15 +86,6 @@ impl Refusal {
         self as u32
     }
 }
-
-impl fmt::Display for Refusal {
-    fn fmt<W: fmt::Write>(&self, f: &mut fmt::Formatter<W>) -> fmt::Result {
-        let number = self.number();
-        write!(f, "the call is refused with {number}")
-    }
-}
-
-impl Error for Refusal {}
 
 // The answer of a ring that is used by itself: an add counts as a put.
 impl From<Progress> for Answer {
@@ -146,7 +137,7 @@ pub trait Ring: Sized + Drop {
     // the models that a state stands for
     ghost stands: { state → Model → Type 0 };
 
-    // A ring with no pair.
+    // A ring with no pair. (It takes three numbers and not `Sizes`, here and below, since it has to refuse them.)
     fn make_empty(places: usize, stations: usize, limit: usize) -> Result<Self, Refusal>
         ensures outcome { viewed view result ≡ empty places stations limit }
         ensures meaning { MadeEmpty stands places stations limit (viewed view result) };

@@ -1,4 +1,5 @@
-ghost use Rattle.std.specs.Prelude.{◌*◌, ◌≤◌};
+ghost use Rattle.std.specs.Prelude.{◌≡◌, ◌*◌, ◌≤◌, true};
+ghost use Rattle.ring.specs.Sizes.{is_size};
 
 use crate::Refusal;
 
@@ -11,13 +12,14 @@ pub struct Sizes {
     pub stations: usize,
     // the ticket at which no counter moves on
     pub limit: usize,
-    pub ghost sized: { (1 ≤ places) × (places ≤ 64) },
+    pub ghost sized: { is_size places ≡ true },
+    pub ghost small: { (1 ≤ places) × (places ≤ 64) },
     pub ghost crewed: { (1 ≤ stations) × (stations ≤ places) },
     pub ghost limited: { (4 * places ≤ limit) × (limit ≤ 999999999) },
 }
 
 impl Sizes {
-    ghost use Rattle.std.specs.Prelude.{◌≡◌, IfOk};
+    ghost use Rattle.std.specs.Prelude.{IfOk};
     ghost use Rattle.ring.specs.Sizes.{make_checked, Checked};
     ghost use Rattle.ring.specs.Meaning.{viewed};
 

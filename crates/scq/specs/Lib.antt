@@ -1,3 +1,4 @@
 pub mod View
 pub mod Steps
 pub mod Parts
+pub mod Counters

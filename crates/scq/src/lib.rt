@@ -2,13 +2,14 @@
 
 #![tactic(auto)]
 
-ghost use Rattle.std.specs.Prelude.{◌≡◌, ◌*◌, ◌^◌, ◌<◌, ◌≤◌, pos, negsuc, ◌+ℤ◌, ◌≤ℤ◌, if◌then◌else◌, Some, None, nat_lt, slice_index};
+ghost use Rattle.std.specs.Prelude.{◌≡◌, ◌*◌, ◌^◌, ◌<◌, ◌≤◌, negsuc, ◌≤ℤ◌, if◌then◌else◌, Some, None, nat_lt, slice_index};
 ghost use Rattle.ring.specs.Tables.{TellsAlways};
 ghost use Rattle.scq_table.specs.Table as table_specs;
 ghost use Rattle.scq_table.specs.Table.{steps, new_words};
-ghost use Rattle.scq_table.specs.declared.Stage.TheVariants.{A1, A2, A3, A4, A5, T1, T2, T3, T4, T5, T6, T7, T9, T11};
+ghost use Rattle.scq_table.specs.declared.Stage.TheVariants.{A2, A4, T3, T4, T5, T7, T11};
 ghost use Rattle.scq_table.specs.Stands.{Stands};
 ghost use Rattle.scq_table.specs.Within.{StepFits, Bounded};
+ghost use Rattle.scq.specs.Counters.{counters_of, ThresholdWithin};
 ghost use Rattle.scq.specs.Parts.{parts};
 ghost use Rattle.scq.specs.Steps.{ticket_taken};
 ghost use Rattle.scq.specs.View.{view};
@@ -41,8 +42,8 @@ pub struct Counters {
 impl Counters {
     // The counters of a ring.
     pub fn of(ring: &Scq) -> Counters
-        ensures exact { (result.head ≡ (⟦<Scq as Ring>⟧.view ring.now).memory.head) × (result.tail ≡ (⟦<Scq as Ring>⟧.view ring.now).memory.tail) × (result.threshold ≡ (⟦<Scq as Ring>⟧.view ring.now).memory.threshold) }
-        ensures within { (pos 0 ≤ℤ (result.threshold +ℤ pos (⟦<Scq as Ring>⟧.view ring.now).stations)) × (negsuc 63 ≤ℤ result.threshold) × (result.threshold ≤ℤ table_specs.top (⟦<Scq as Ring>⟧.view ring.now).memory.places) }
+        ensures exact { result ≡ counters_of (⟦<Scq as Ring>⟧.view ring.now) }
+        ensures within { ThresholdWithin (⟦<Scq as Ring>⟧.view ring.now) result.threshold }
     {
         let memory = ring.memory();
         Counters {
@@ -118,7 +119,7 @@ impl Memory for ScqMemory {
     }
 
     fn is_idle(stage: Stage) -> bool {
-        matches!(stage, Stage::Idle)
+        stage == Stage::Idle
     }
 
     fn adding(index: usize) -> Stage {
@@ -182,7 +183,7 @@ impl Memory for ScqMemory {
     }
 }
 
-// Fetch-and-add: the counter's old value is the ticket. It stays below the limit.
+// Fetch-and-add: the counter's old value is the ticket. At the limit there is none.
 fn take_ticket(counter: &mut usize, limit: usize) -> Result<usize, Refusal>
     requires { counter.old ≤ 999999999 }
     ensures { (result, counter.new) ≡ ticket_taken counter.old limit }
@@ -205,7 +206,7 @@ fn new_words(layout: Layout, filled: usize) -> [usize; 128]
 impl ScqMemory {
     // The word at the slot, if there is such a slot.
     pub fn word(&self, slot: usize) -> Option<usize>
-        ensures { result ≡ (if nat_lt slot (2 * self.now.layout.places) then Some (slice_index self.now.words slot) else None) }
+        ensures { result ≡ (if nat_lt slot (2 * (view self.now).places) then Some (slice_index (view self.now).words slot) else None) }
     {
         self.words[..self.layout.slots()].get(slot).copied()
     }
@@ -219,12 +220,12 @@ impl ScqMemory {
 
     // What a word of this ring is made up of.
     pub fn parts(&self, word: usize) -> Parts
-        ensures { result ≡ parts self.now.layout.places word }
+        ensures { result ≡ parts (view self.now).places word }
     {
         self.layout.parts(word)
     }
 
-    // A2
+    // A2: loads the word at the ticket's slot.
     fn load_to_add(&self, index: usize, ticket: usize) -> Row<Stage>
         ensures { TellsAlways steps (view self.now) (A2 index ticket) result (view self.now) }
     {
@@ -246,7 +247,7 @@ impl ScqMemory {
         }
     }
 
-    // A4
+    // A4: writes the pair over the word that A2 loaded, if it is still there.
     fn write(&mut self, index: usize, ticket: usize, word: usize) -> Row<Stage>
         requires { (index < self.old.layout.places) × (ticket < 999999999) }
         ensures { TellsAlways steps (view self.old) (A4 index ticket word) result (view self.new) }
@@ -260,7 +261,7 @@ impl ScqMemory {
         }
     }
 
-    // T3
+    // T3: loads the word at the ticket's slot.
     fn load_to_take(&self, ticket: usize) -> Row<Stage>
         ensures { TellsAlways steps (view self.now) (T3 ticket) result (view self.now) }
     {
@@ -272,7 +273,7 @@ impl ScqMemory {
         }
     }
 
-    // T4
+    // T4: takes the index out of the word, and leaves its cycle and safe bit.
     fn empty_word(&mut self, ticket: usize, word: usize) -> Row<Stage>
         ensures { TellsAlways steps (view self.old) (T4 ticket word) result (view self.new) }
     {
@@ -281,7 +282,7 @@ impl ScqMemory {
         Ok((Progress::Taken(Some(layout.index(word))), Stage::Idle))
     }
 
-    // T5
+    // T5: spoils the word that T3 loaded, if it is still there.
     fn spoil_word(&mut self, ticket: usize, word: usize) -> Row<Stage>
         requires { (ticket < 2 ^ 40) × (word < 2 ^ 40) }
         ensures { TellsAlways steps (view self.old) (T5 ticket word) result (view self.new) }
@@ -295,7 +296,7 @@ impl ScqMemory {
         }
     }
 
-    // T7
+    // T7: moves Tail up to Head, if it has not moved.
     fn move_tail(&mut self, ticket: usize, tail: usize, head: usize) -> Row<Stage>
         ensures { TellsAlways steps (view self.old) (T7 ticket tail head) result (view self.new) }
     {
@@ -306,7 +307,7 @@ impl ScqMemory {
         }
     }
 
-    // T11
+    // T11: lowers Threshold, and ends where it was used up.
     fn lower_threshold(&mut self, ticket: usize) -> Row<Stage>
         requires { negsuc 63 ≤ℤ self.old.threshold }
         ensures { TellsAlways steps (view self.old) (T11 ticket) result (view self.new) }

@@ -22,12 +22,9 @@ use Rattle.scq_table.proofs.Words.{join-cycle, join-index, bottom_low}
 use Rattle.scq_table.proofs.Pairs.{pair_there, pair_is, no_pair}
 use Rattle.scq_table.proofs.Built.{each_once}
 
-all_idle : (s : ℕ) → get_or (replicate 64 Idle) s Idle ≡ Idle
-all_idle s = get_or-same 64 s Idle
-
 none_holds : (k : ℕ) → holders k (λ s. get_or (replicate 64 Idle) s Idle) ≡ 0
 none_holds zero = refl
-none_holds (suc k) = omega (arith, ap (λ st. one_if (is_some (holds st))) (all_idle k), none_holds k)
+none_holds (suc k) = omega (arith, ap (λ st. one_if (is_some (holds st))) (get_or-same 64 k Idle), none_holds k)
 
 -- a ring of which no call has been made, with index j under ticket 2n + j for j below c
 module _ (n k l c t : ℕ) (z : ℤ) (low : c ≤ n) (end : t ≡ 2 * n + c) (high : z ≤ℤ top n)
@@ -121,7 +118,7 @@ module _ (n k l c t : ℕ) (z : ℤ) (low : c ≤ n) (end : t ≡ 2 * n + c) (hi
     new_charged = record {
       low = λ u a b. omega arith;
       apart = λ u v a b d f e. omega arith;
-      to_item = λ u i a b. ⊎_elim (λ e. omega (arith, pair_new u i e)) (λ p. absurd (cc (all_idle p.0)));
+      to_item = λ u i a b. ⊎_elim (λ e. omega (arith, pair_new u i e)) (λ p. absurd (cc (get_or-same 64 p.0 Idle)));
       from_item = λ u a b d. inl (subst (λ v. pair m v ≡ Some (u - 2 * n)) (omega arith) (pair_at (u - 2 * n) (omega arith)));
       from_older = λ u v i a b e p. absurd (omega arith);
     }
@@ -130,11 +127,11 @@ module _ (n k l c t : ℕ) (z : ℤ) (low : c ≤ n) (end : t ≡ 2 * n + c) (hi
     new_sound = record {
       shared = new_shared;
       crew = few;
-      beyond = λ s g. all_idle s;
-      fits = λ s. subst (Fits m) (sym (all_idle s)) tt;
-      one_writer = λ s r i w v. absurd (cc (all_idle s));
-      not_both = λ u s i e w. cc (all_idle s);
-      one_holder = λ s r u w v. absurd (cc (all_idle s));
+      beyond = λ s g. get_or-same 64 s Idle;
+      fits = λ s. subst (Fits m) (sym (get_or-same 64 s Idle)) tt;
+      one_writer = λ s r i w v. absurd (cc (get_or-same 64 s Idle));
+      not_both = λ u s i e w. cc (get_or-same 64 s Idle);
+      one_holder = λ s r u w v. absurd (cc (get_or-same 64 s Idle));
       held_or_dead = λ u a. inr (⊎_elim
           (λ b. overtaken (omega (arith, div-eq_of_lt a, used_cycle u b)))
           (λ g. spoilt (blank_cycle u g ∙ sym (div-eq_of_lt a)) (is_blank u g))
@@ -155,8 +152,8 @@ module _ (n k l c t : ℕ) (z : ℤ) (low : c ≤ n) (end : t ≡ 2 * n + c) (hi
       pairs = λ u. refl;
       adds_at = refl;
       takes_at = refl;
-      does = λ s. subst (λ st. Does m st idle) (sym (all_idle s)) refl;
-      ends_soon = λ s. (0, omega arith, subst (λ st. Left m st 0) (sym (all_idle s)) tt);
+      does = λ s. subst (λ st. Does m st idle) (sym (get_or-same 64 s Idle)) refl;
+      ends_soon = λ s. (0, omega arith, subst (λ st. Left m st 0) (sym (get_or-same 64 s Idle)) tt);
     }
 
   -- the indices in pairs are those below c

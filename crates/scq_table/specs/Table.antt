@@ -13,7 +13,7 @@
 -- steps            all that the table says, as one record
 --
 -- Assumes nothing.
-use Rattle.std.specs.Prelude.{ℕ, ◌+◌, ◌-◌, ◌*◌, ◌/◌, ◌%◌, Bool, true, false, if◌then◌else◌, ◌&&◌, List, map, replicate, ℤ, pos, negsuc, ◌-ℤ◌, Some, None, Ok, Err, Result, ◌==◌, bit_or, int_le, int_lt, nat_le, nat_lt, slice_index, slice_set}
+use Rattle.std.specs.Prelude.{ℕ, ◌+◌, ◌-◌, ◌*◌, ◌/◌, ◌%◌, Bool, true, false, if◌then◌else◌, ◌&&◌, List, map, ℤ, pos, negsuc, ◌-ℤ◌, Some, None, Ok, Err, Result, ◌==◌, bit_or, int_le, int_lt, nat_le, nat_lt, slice_index, slice_set}
 use Rattle.std.specs.List.{range_with_len}
 use Rattle.ring.specs.declared.Progress.TheVariants.{Going, Added, Taken}
 use Rattle.ring.specs.declared.Refusal.{Refusal}
@@ -202,15 +202,6 @@ is_there m i j = index m.places (slice_index m.words j) == i
 
 -- makes
 
--- the first ticket of cycle 1 is the next to be taken
-abbrev pub new_ring : ℕ → ℕ → ℕ → ℕ → ℤ → List ℕ → State
-new_ring n k l t z ws = record {
-  stations = k;
-  limit = l;
-  memory = record { places = n; head = 2 * n; tail = t; threshold = z; words = ws };
-  stages = replicate 64 Idle;
-}
-
 -- the words of a new ring: of cycle 1, safe and with index j at slot j below c; the others of cycle 0,
 -- safe and empty
 abbrev pub word_of_new : ℕ → ℕ → ℕ → ℕ
@@ -235,6 +226,10 @@ steps = record {
   empty = λ n. record { places = n; head = 2 * n; tail = 2 * n; threshold = negsuc 0; words = new_words n 0 };
   full = λ n. record { places = n; head = 2 * n; tail = 3 * n; threshold = top n; words = new_words n n };
 }
+
+-- a new ring: the first ticket of cycle 1 is the next to be taken
+abbrev pub new_ring : ℕ → ℕ → ℕ → ℕ → ℤ → List ℕ → State
+new_ring n k l t z ws = tables.opened steps k l (record { places = n; head = 2 * n; tail = t; threshold = z; words = ws })
 
 -- calls
 

@@ -117,7 +117,8 @@ impl fmt::Display for Stage {
     }
 }
 
-// Whatever calls come, in whatever order, the table does what a ring may do.
+// Whatever calls come, in whatever order, the table does what a ring may do. (This theorem and the next are
+// of this table: to say them of any, the table would have to be a type.)
 pub fn table_has_the_meaning()
     ensures { HasMeaning State Stands empty full adds takes turns }
 {}

@@ -24,10 +24,10 @@ fn story<R: Shown>(rt: &HostRuntime) -> anyhow::Result<()> {
     shed.add(rt, first, 1)?;
     shed.turn(rt, first)?;
     shed.turn(rt, first)?;
-    println!(rt; "      station 0 has loaded a word and falls silent")?;
+    println!(rt; "      station {first} has loaded a word and falls silent")?;
     pass(rt, &mut shed, second, 0, second)?;
     pass(rt, &mut shed, second, 0, second)?;
-    println!(rt; "      station 0 comes back, and its word is no longer there")?;
+    println!(rt; "      station {first} comes back, and its word is no longer there")?;
     shed.finish(rt, first)?;
     shed.take(rt, second)?;
     shed.finish(rt, second)?;

@@ -105,7 +105,7 @@ impl<R: Shown> Shed<R> {
     ) -> anyhow::Result<()> {
         let progress = self.begin_add(station, index)?;
         let step = format!(in rt.alloc(); "begin add {index}")?;
-        self.print(rt, station, &step, None, progress)
+        self.print(rt, station, step.as_str(), None, progress)
     }
 
     fn begin_add(&mut self, station: Station, index: usize) -> Result<Progress, Refusal>
@@ -121,7 +121,7 @@ impl<R: Shown> Shed<R> {
 
     pub(crate) fn take(&mut self, rt: &HostRuntime, station: Station) -> anyhow::Result<()> {
         let progress = self.begin_take(station)?;
-        self.print(rt, station, &"begin take", None, progress)
+        self.print(rt, station, "begin take", None, progress)
     }
 
     fn begin_take(&mut self, station: Station) -> Result<Progress, Refusal>
@@ -149,7 +149,7 @@ impl<R: Shown> Shed<R> {
         let step = self.ring.step(station.number).ok_or(Refusal::NoStation)?;
         let progress = self.make_turn(station)?;
         self.note(station, progress)?;
-        self.print(rt, station, &step, Some(step), progress)?;
+        self.print(rt, station, step, Some(step), progress)?;
         Ok(progress)
     }
 
@@ -193,7 +193,7 @@ impl<R: Shown> Shed<R> {
         &mut self,
         rt: &HostRuntime,
         station: Station,
-        name: &impl fmt::Display,
+        name: impl fmt::Display + Copy,
         step: Option<R::Step>,
         progress: Progress,
     ) -> anyhow::Result<()>

@@ -17,7 +17,8 @@ pub(crate) trait Shown: Ring {
     // The headings of these columns.
     fn headings() -> &'static str;
 
-    // The step that the station's next turn makes, if there is such a station.
+    // The step that the station's next turn makes, if there is such a station. (Each ring gives its own
+    // `stage`: only it knows the type.)
     fn step(&self, station: usize) -> Option<Self::Step>;
 
     // The ring's own columns after a step, or after a begin.
