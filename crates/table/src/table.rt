@@ -24,6 +24,7 @@ impl<M: Memory> Table<M> {
     ghost use Rattle.ring.specs.Meaning.{viewed};
     ghost use Rattle.ring.specs.Scans.{any_below};
     ghost use Rattle.table.specs.Begins.{may_begin};
+    ghost use Rattle.table.specs.View.{view};
 
     // What the stations share.
     pub fn memory(&self) -> &M
@@ -34,7 +35,7 @@ impl<M: Memory> Table<M> {
 
     // Where the station's call stands, if there is such a station.
     pub fn stage(&self, station: usize) -> Option<M::Stage>
-        ensures { result ≡ (if nat_lt station self.now.stations then Some (stage_of M.steps.idle (⟦<Table<M> as Ring>⟧.view self.now) station) else None) }
+        ensures { result ≡ (if nat_lt station self.now.stations then Some (stage_of M.steps.idle (view M.Memory self.now) station) else None) }
     {
         self.stages[..self.stations].get(station).copied()
     }
@@ -42,7 +43,7 @@ impl<M: Memory> Table<M> {
     // A new ring: every station is idle.
     fn open(memory: M, sizes: Sizes) -> Table<M>
         requires { M.bounded sizes.stations sizes.limit (M.view memory) (replicate 64 M.steps.idle) }
-        ensures { ⟦<Table<M> as Ring>⟧.view result ≡ opened M.steps sizes.stations sizes.limit (M.view memory) }
+        ensures { view M.Memory result ≡ opened M.steps sizes.stations sizes.limit (M.view memory) }
     {
         Table {
             memory,
@@ -54,21 +55,21 @@ impl<M: Memory> Table<M> {
 
     // The two ways of making a ring: a call that is handed M::empty or M::full would be no shorter than they are.
     fn open_empty(places: usize, stations: usize, limit: usize) -> Result<Table<M>, Refusal>
-        ensures { viewed ⟦<Table<M> as Ring>⟧.view result ≡ empty M.steps places stations limit }
+        ensures { viewed (view M.Memory) result ≡ empty M.steps places stations limit }
     {
         let sizes = Sizes::new(places, stations, limit)?;
         Ok(Table::open(M::empty(sizes), sizes))
     }
 
     fn open_full(places: usize, stations: usize, limit: usize) -> Result<Table<M>, Refusal>
-        ensures { viewed ⟦<Table<M> as Ring>⟧.view result ≡ full M.steps places stations limit }
+        ensures { viewed (view M.Memory) result ≡ full M.steps places stations limit }
     {
         let sizes = Sizes::new(places, stations, limit)?;
         Ok(Table::open(M::full(sizes), sizes))
     }
 
     fn start_add(&mut self, station: usize, index: usize) -> Result<Progress, Refusal>
-        ensures { (result, ⟦<Table<M> as Ring>⟧.view self.new) ≡ adds M.steps (⟦<Table<M> as Ring>⟧.view self.old) station index }
+        ensures { (result, view M.Memory self.new) ≡ adds M.steps (view M.Memory self.old) station index }
     {
         self.check_idle(station)?;
         if index >= self.memory.places() {
@@ -82,7 +83,7 @@ impl<M: Memory> Table<M> {
     }
 
     fn start_take(&mut self, station: usize) -> Result<Progress, Refusal>
-        ensures { (result, ⟦<Table<M> as Ring>⟧.view self.new) ≡ takes M.steps (⟦<Table<M> as Ring>⟧.view self.old) station }
+        ensures { (result, view M.Memory self.new) ≡ takes M.steps (view M.Memory self.old) station }
     {
         self.check_idle(station)?;
         self.stages[station] = M::taking();
@@ -91,7 +92,7 @@ impl<M: Memory> Table<M> {
 
     // A station has one call in progress at the most.
     fn check_idle(&self, station: usize) -> Result<(), Refusal>
-        ensures { result ≡ may_begin M.steps (⟦<Table<M> as Ring>⟧.view self.now) station }
+        ensures { result ≡ may_begin M.steps (view M.Memory self.now) station }
     {
         match self.stage(station) {
             None => Err(Refusal::NoStation),
@@ -115,7 +116,7 @@ impl<M: Memory> Table<M> {
 
     // Whether a station is still to write the index.
     fn is_being_added(&self, index: usize) -> bool
-        ensures { result ≡ any_below self.now.stations (writes M.steps (⟦<Table<M> as Ring>⟧.view self.now) index) }
+        ensures { result ≡ any_below self.now.stations (writes M.steps (view M.Memory self.now) index) }
     {
         self.stages[..self.stations]
             .iter()
@@ -124,7 +125,7 @@ impl<M: Memory> Table<M> {
 
     // One row of the step table: the station's next memory operation.
     fn step(&mut self, station: usize) -> Result<Progress, Refusal>
-        ensures { (result, ⟦<Table<M> as Ring>⟧.view self.new) ≡ turns M.steps (⟦<Table<M> as Ring>⟧.view self.old) station }
+        ensures { (result, view M.Memory self.new) ≡ turns M.steps (view M.Memory self.old) station }
     {
         if station >= self.stations {
             return Err(Refusal::NoStation);
@@ -136,11 +137,12 @@ impl<M: Memory> Table<M> {
 }
 
 impl<M: Memory> Ring for Table<M> {
+    ghost use Rattle.table.specs.View.{view};
     ghost use Rattle.ring.specs.Tables.{State, empty, full, adds, takes, turns};
 
     ghost state = { State M.shown M.Stage };
 
-    ghost view = { λ q. record { stations = q.stations; limit = q.limit; memory = M.view q.memory; stages = q.stages } };
+    ghost view = { view M.Memory };
 
     ghost empty = { empty M.steps };
 
