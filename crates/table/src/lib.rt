@@ -77,7 +77,7 @@ pub trait Memory: Sized + Drop {
     fn taking() -> Self::Stage
         ensures { result ≡ steps.taking };
 
-    // Whether a call that stands there is still to write the index.
+    // Whether a call that stands there is still to write the index. (Each memory names its own steps here.)
     fn is_adding(stage: Self::Stage, index: usize) -> bool
         ensures { result ≡ steps.is_adding index stage };
 
