@@ -111,8 +111,8 @@ impl Memory for NcqMemory {
 
     // The step table: one memory operation, and where the station stands after it.
     #[rattlefmt::skip]
-    fn row(&mut self, limit: usize, stage: Stage) -> Row<Stage> {
-        match stage {
+    fn row(&mut self, limit: usize, stage: &Stage) -> Row<Stage> {
+        match *stage {
             Stage::Idle => Err(Refusal::NoCall),
             Stage::N1 { index } => {
                 let ticket = ticket_at(self.tail, limit)?;

@@ -2,8 +2,11 @@
 
 #![tactic(auto)]
 
+ghost use Rattle.std.specs.Prelude.{Some};
+ghost use Rattle.std.specs.Fmt.{padded};
 ghost use Rattle.ring.specs.Meaning.{HasMeaning};
 ghost use Rattle.ncq_table.specs.Table.{State, empty, full, adds, takes, turns};
+ghost use Rattle.ncq_table.specs.Names.{step_name};
 ghost use Rattle.ncq_table.specs.Stands.{Stands};
 ghost use Rattle.ncq_table.specs.Example.{MidAddStands};
 
@@ -54,6 +57,10 @@ pub enum Stage {
 
 // The name of the step.
 impl fmt::Display for Stage {
+    ghost output = { λ stage. Some (step_name stage) };
+
+    ghost styled_output = { λ stage spec. Some (padded spec (step_name stage)) };
+
     fn fmt<W: fmt::Write>(&self, f: &mut fmt::Formatter<W>) -> fmt::Result {
         f.pad(match self {
             Stage::Idle => "idle",

@@ -7,7 +7,6 @@ mod tests {
     use ncq::Ncq;
     use ring::{Progress, Refusal, Ring};
     use scq::{Counters, Scq};
-    use std::process::Abort;
     use std::test::Fail;
 
     // The number of the refusal, if the call is refused.
@@ -54,39 +53,44 @@ mod tests {
         Ok(())
     }
 
-    fn refuses_the_first_wrong_size<R: Ring>(rt: &impl Abort) {
-        assert_eq!(rt; refusal_of(R::make_empty(1, 1, 3)), Some(3));
-        assert_eq!(rt; refusal_of(R::make_full(128, 0, 3)), Some(1));
+    // The refusals of an empty ring with too low a limit, and of a full ring with each size wrong.
+    fn wrong_sizes<R: Ring>() -> [Option<u32>; 2] {
+        [
+            refusal_of(R::make_empty(1, 1, 3)),
+            refusal_of(R::make_full(128, 0, 3)),
+        ]
     }
 
     #[test]
     fn the_first_wrong_size_is_refused(rt: HostRuntime) {
-        refuses_the_first_wrong_size::<Ncq>(&rt);
-        refuses_the_first_wrong_size::<Scq>(&rt);
+        assert_eq!(rt; wrong_sizes::<Ncq>(), [Some(3), Some(1)]);
+        assert_eq!(rt; wrong_sizes::<Scq>(), [Some(3), Some(1)]);
     }
 
-    fn refuses_a_second_begin<R: Ring>(rt: &impl Abort) -> Result<(), Fail> {
+    // The refusal of a station's second begin, which names no index of the ring besides.
+    fn second_begin<R: Ring>() -> Result<Option<u32>, Fail> {
         let mut ring = R::make_empty(1, 1, 4)?;
         ring.begin_take(0)?;
-        assert_eq!(rt; refusal_of(ring.begin_add(0, 7)), Some(6));
-        Ok(())
+        Ok(refusal_of(ring.begin_add(0, 7)))
     }
 
     #[test]
     fn a_second_begin_is_refused(rt: HostRuntime) -> Result<(), Fail> {
-        refuses_a_second_begin::<Ncq>(&rt)?;
-        refuses_a_second_begin::<Scq>(&rt)
+        assert_eq!(rt; second_begin::<Ncq>()?, Some(6));
+        assert_eq!(rt; second_begin::<Scq>()?, Some(6));
+        Ok(())
     }
 
-    fn adds_no_index_of_a_full_ring<R: Ring>(rt: &impl Abort) -> Result<(), Fail> {
+    // The refusal of an add of an index that a full ring has.
+    fn add_to_full<R: Ring>() -> Result<Option<u32>, Fail> {
         let mut ring = R::make_full(2, 1, 8)?;
-        assert_eq!(rt; refusal_of(ring.begin_add(0, 1)), Some(10));
-        Ok(())
+        Ok(refusal_of(ring.begin_add(0, 1)))
     }
 
     #[test]
     fn an_index_in_a_full_ncq_is_not_added_again(rt: HostRuntime) -> Result<(), Fail> {
-        adds_no_index_of_a_full_ring::<Ncq>(&rt)
+        assert_eq!(rt; add_to_full::<Ncq>()?, Some(10));
+        Ok(())
     }
 
     #[test]
@@ -122,7 +126,8 @@ mod tests {
 
     #[test]
     fn an_index_in_a_full_scq_is_not_added_again(rt: HostRuntime) -> Result<(), Fail> {
-        adds_no_index_of_a_full_ring::<Scq>(&rt)
+        assert_eq!(rt; add_to_full::<Scq>()?, Some(10));
+        Ok(())
     }
 
     #[test]

@@ -142,8 +142,8 @@ impl Memory for ScqMemory {
 
     // The step table: one memory operation, and where the station stands after it.
     #[rattlefmt::skip]
-    fn row(&mut self, limit: usize, stage: Stage) -> Row<Stage> {
-        match stage {
+    fn row(&mut self, limit: usize, stage: &Stage) -> Row<Stage> {
+        match *stage {
             Stage::Idle => Err(Refusal::NoCall),
             Stage::A1 { index } => {
                 let ticket = take_ticket(&mut self.tail, limit)?;

@@ -82,16 +82,16 @@ pub trait Memory: Sized + Drop {
         ensures { result ≡ steps.is_adding index stage };
 
     // A row of the table: the memory operation of that step. It tells the progress and the station's next step.
-    fn row(&mut self, limit: usize, stage: Self::Stage) -> Row<Self::Stage>
-        requires { fits limit (view self.old) stage }
-        ensures { Tells steps limit (view self.old) stage result (view self.new) };
+    fn row(&mut self, limit: usize, stage: &Self::Stage) -> Row<Self::Stage>
+        requires { fits limit (view self.old) stage.now }
+        ensures { Tells steps limit (view self.old) stage.now result (view self.new) };
 
     // The next step of a station's call.
     final fn step(&mut self, limit: usize, stage: &mut Self::Stage) -> Result<Progress, Refusal>
         requires { fits limit (view self.old) stage.old }
         ensures { (result, view self.new, stage.new) ≡ applied (steps.step (view self.old) limit stage.old) (view self.old) stage.old }
     {
-        let (progress, next) = self.row(limit, *stage)?;
+        let (progress, next) = self.row(limit, stage)?;
         *stage = next;
         Ok(progress)
     }
